@@ -59,7 +59,17 @@ QUESTIONS = {
     "ConfirmCallSetup": ("b", YES), "PlayTone": ("", SEEN), "LoopTone": ("", NOTHING), "DisplayActionInformation": ("", NOTHING),
     "ConfirmLaunchBrowser": ("b", YES), "DisplayAction": ("", NOTHING), "ConfirmOpenChannel": ("b", YES),
 }
-KINDS = {"s": str, "y": int, "b": bool}
+
+
+def yes_or_no(value):
+    """What a user says to a question that wants yes or no, in a word or as a truth."""
+    words = {"yes": True, "no": False, True: True, False: False}
+    if not isinstance(value, (str, bool)) or value not in words:
+        raise ValueError(f"{value} is neither yes nor no")
+    return words[value]
+
+
+KINDS = {"s": str, "y": int, "b": yes_or_no}
 
 
 def plain(value):

@@ -4,7 +4,7 @@ import tempfile
 import unittest
 
 import common
-from uicc import picture, process
+from uicc import kept, picture, process
 
 HEAD = """pin 0A 3838383838383838 on 3030303030303030
 ef 2FE2 t 4 2 -
@@ -18,8 +18,11 @@ TABLE = {
     "what is written again is the same": (ADM + "apdu 00D6820004AABBCCDD\n", 36, 0, ["ends as it would have, after 0 otherwise"]),
     "a folder that is there already isn't selected by making it again": (
         ADM + "apdu 00E000000A62088202782183027F10\napdu 00E0000011620F8202412183026F5080020004880128\n", 36, 15,
-        ["7F10/6F50", "run again, line 6 shows `< 6A89` and not `< 9000`"]),
-    "a cyclic file gets one more record": ("apdu 00DC002B020102\n", 5, 10, ["otherwise: 2F05", "after 1 of 1 lines: 5"]),
+        ["otherwise: 7F10/6F50 is missing; ", "run again, line 6 shows `< 6A89` and not `< 9000`"]),
+    "what lies in that folder is made in the MF": (
+        ADM + "apdu 00E000000A62088202782183027F10\napdu 00E0000011620F8202412183026F5080020004880130\n", 29, 22,
+        ["otherwise: 7F10/6F50 is missing, 3F00/6F50 is too much; run again, line 6 shows `< 6A89` and not `< 9000`"]),
+    "a cyclic file gets one more record": ("apdu 00DC002B020102\n", 5, 10, ["otherwise: 2F05 EF.PL differs", "after 1 of 1 lines: 5"]),
     "a reset": ("reset\n", 0, 0, ["0 writes"]),
 }
 
@@ -64,7 +67,7 @@ class Again(unittest.TestCase):
         _, same, otherwise, _ = TABLE["a folder that is there already isn't selected by making it again"]
         svg = self.path + ".svg"
         done = self.again(TABLE["a folder that is there already isn't selected by making it again"][0], "--picture", svg)
-        self.assertTrue(done.stdout.startswith("Each write is cut, torn and failing once; then the card is reset, and the whole script is run again"))
+        self.assertTrue(done.stdout.startswith("Each write is cut, torn and made to fail; then the card is reset, and the whole script is run again"))
         with open(svg, encoding="utf-8") as text:
             drawn = text.read()
         # beside that of the legend
@@ -86,6 +89,51 @@ class Again(unittest.TestCase):
             return {line.split()[0] for line in self.again(text, *words).stdout.splitlines() if line[:5].strip().isdigit()}
         first, second = lines("--shard", "1/2"), lines("--shard", "2/2")
         self.assertEqual((len(first), len(second), first & second, first | second), (3, 2, set(), lines()))
+
+    # words of cuts over an image, and what its last line tells: as much as of the same script with the card before its `start`
+    OVER_AN_IMAGE = {
+        "--all": "2 commands and resets; 12 writes, 36 runs: 12 leave what was before and is after, 5 leave what was before, 12 leave what is between, "
+                 "7 leave what is after",
+        "--again": "2 commands and resets; 12 writes, 36 runs: after 36 the card ends as it would have, after 0 otherwise",
+    }
+
+    def test_over_an_image(self):
+        """A script for `open` goes on with the card of an image, of either store; the image stays as it is."""
+        steps = ADM + "apdu 00D6820004AABBCCDD\n"
+        for store in ("journal", "pages"):
+            held = kept.Place(["play", "--store", store], 0, HEAD.splitlines()).play([]).image
+            image = self.path + "." + store
+            with open(image, "wb") as out:
+                out.write(held)
+            with open(self.path, "w", encoding="ascii") as out:
+                out.write("start\n" + steps)
+            for words in (["--back", self.path], ["--all"], ["--again"], []):
+                with self.subTest(store=store, words=words):
+                    over = cuts(self.path, *words, "--image", image, "--store", store)
+                    self.assertEqual((over.returncode, over.stderr), (0, ""))
+                    if store == "journal" and words and words[0] in self.OVER_AN_IMAGE:
+                        self.assertEqual(over.stdout.splitlines()[-1], self.OVER_AN_IMAGE[words[0]])
+                    if not words:
+                        self.assertIn("before        FFFFFFFF 9000\nafter         AABBCCDD 9000\n", over.stdout)
+            with open(image, "rb") as there:
+                self.assertEqual(there.read(), held)
+
+    def test_an_image_that_is_refused(self):
+        held = kept.Place(["play"], 0, HEAD.splitlines()).play([]).image
+        image = self.path + ".img"
+        for content, script, words, why in (
+                (held, HEAD + ADM, [], f"describes a card before its `start`, and --image goes on with the one in {image}: give one of the two"),
+                (held[:-1], "start\n" + ADM, [], f"cuts: {image}: it is no image of a card"),
+                (held, "start\n" + ADM, ["--store", "pages"], f"cuts: {image}: it is an image of the other store"),
+                (held, "start\n" + ADM, ["--phone"], "not allowed with argument")):
+            with self.subTest(why=why):
+                with open(image, "wb") as out:
+                    out.write(content)
+                with open(self.path, "w", encoding="ascii") as out:
+                    out.write(script)
+                done = cuts(self.path, *words, "--image", image)
+                self.assertEqual(done.returncode, 2)
+                self.assertIn(why, done.stderr)
 
     # words, and why they are refused
     REFUSED = [

@@ -196,7 +196,7 @@ class Texts(Copy):
     # a name, a text, and why there can be no such one
     REFUSED = [("say", "Say?", "capital letters"), ("SAY", "", "1 to 239 characters"), ("SAY", 'a"b', "1 to 239 characters"), ("SAY", "é", "and `é` is none"),
                ("SAY", "x" * 240, "1 to 239 characters .* and not 240"), ("MINUTES", "x", "the name of a number"),
-               ("CHOICE_TITLE", "far too long", "CHOICE_TITLE has 12 letters, and the title of a list has room for 10"),
+               ("CHOICE_TITLE", "far too long", "CHOICE_TITLE has 12 characters, and the title of a list has room for 10"),
                ("TEXT_ITEM", "far too long", "an entry of a list has room for 10"), ("ASK_FOR_NOTE", "x" * 236, "GET INPUT has room for 235")]
 
     def test_refused(self):
@@ -209,9 +209,10 @@ class Texts(Copy):
     def test_too_long_for_its_use(self):
         """A text that the definition comes to use where there is less room is told with the line."""
         new_kind.put_text(self.crates, "SAY", "far too long")
-        self.change("done mind)\n\nabbrev pub menu", "turn mind (Send (SelectItem SAY.now [])) 2)\n\nabbrev pub menu", "applet_trait", "specs", "Tables.antt")
+        self.change("GENERAL_BEEP)) 2\n    else done mind)", "GENERAL_BEEP)) 2\n    else turn mind (Send (SelectItem SAY.now [])) 2)",
+                    "applet_trait", "specs", "Tables.antt")
         (path, line, why), = kind_faults.findings(self.crates)
-        self.assertEqual(why, "item_chosen: SAY has 12 letters, and the title of a list has room for 10")
+        self.assertEqual(why, "item_chosen: SAY has 12 characters, and the title of a list has room for 10")
         self.assertIn("SelectItem SAY.now", self.text_of("applet_trait", "specs", "Tables.antt").split("\n")[line - 1])
 
     def test_the_longest(self):
@@ -311,7 +312,7 @@ class Words(Copy):
     UNSEEN = [
         ("parrot mind (Event code []) = done mind\nparrot mind (Response 3 item text) = turn mind (Send (GetInkey GREETING)) 1\nparrot mind Went = done mind\n"
          "parrot mind (Response result item text) = turn mind (show GREETING.now) MINUTES.now",
-         ["{at}: parrot: no clause is of the case `parrot _ Refused`", "{next}: parrot: GREETING is a text of the code, whose letters are GREETING.now",
+         ["{at}: parrot: no clause is of the case `parrot _ Refused`", "{next}: parrot: GREETING is a text of the code, whose characters are GREETING.now",
           "{last}: parrot: MINUTES is a number of the code, and has no .now"]),
     ]
 

@@ -162,8 +162,26 @@ class Cards(unittest.TestCase):
             self.assertIsNone(card.fetch().tone)
             with self.assertRaisesRegex(ValueError, r"SELECT ITEM offers no item 4: 1 \(Text\), 2 \(Tone\)"):
                 card.respond(item=4)
-        with Card.from_text("") as card, self.assertRaisesRegex(CardError, "the card's menu has no entry 1: it is empty"):
-            card.pick(1)
+        with Card.from_text("") as card:
+            card.profile()
+            with self.assertRaisesRegex(CardError, "the card's menu has no entry 1: it is empty"):
+                card.pick(1)
+
+    def test_a_menu_that_wasnt_told(self):
+        """Before TERMINAL PROFILE, and after a reset, the terminal has no menu of which a user could pick."""
+        with Card.from_text("pin 0A 3838383838383838 on 3030303030303030\nrow 1 1 00044D656E75\nstart\n") as card:
+            def lost():
+                card.profile()
+                card.cut(1)
+                with self.assertRaises(PowerLost):
+                    card.verify("adm", "88888888")
+                card.reset()
+            for prepare in (lambda: None, lambda: (card.profile(), card.reset()), lost):
+                prepare()
+                sent = len(card.trace)
+                with self.assertRaisesRegex(CardError, "tells its menu once it knows the terminal: `profile\\(\\)` comes first"):
+                    card.pick(2)
+                self.assertEqual(len(card.trace), sent)
 
     def test_faults(self):
         with Card(USIM) as card:
@@ -403,7 +421,7 @@ class Importing(unittest.TestCase):
 @unittest.skipUnless(is_built(), "the program isn't built")
 class Cuts(unittest.TestCase):
     def outcomes(self, path, words):
-        script = cutting.read_script(path, words[0] == "phone")
+        script = cutting.read_script(path, words[0])
         return cutting.all_outcomes(words, script, os.cpu_count(), terminal.Progress(0, ""))
 
     def test_nothing_is_torn(self):

@@ -20,7 +20,7 @@ class Contents(unittest.TestCase):
         ("dialling", "FF" * 28, None),
         ("acc", "0200", "class 9"),
         ("ad", "00000002", "normal operation, the network's code has 2 digits"),
-        ("ust", "0008140401", "12 short message parameters, 19 service provider name, 21 MSISDN, 27 GSM access, 33 to be set to 1"),
+        ("ust", "0008140401", "12 short message parameters, 19 service provider name, 21 MSISDN, 27 GSM access, 33 reserved, shall be set to 1"),
         ("sst", "0F03", "1 CHV1 disable function, 2 abbreviated dialling numbers, 5 advice of charge"),
         ("loci", "FFFFFFFE00F1100001FF00", "TMSI FFFFFFFE, 001-01 area 0001, updated"),
         ("languages", "656E6672FFFF", "en, fr"),
@@ -68,7 +68,7 @@ class Contents(unittest.TestCase):
                 (contents.encode_ad, {"network_digits": 3}, "00000003"),
                 (contents.encode_ust, [12, 19, 21, 27, 33], "0008140401"),
                 (contents.encode_sst, [1, 2, 5], "0F03"),
-                (contents.encode_loci, {"plmn": "001-01", "area": "0001", "status": "updated"}, "FFFFFFFF00F11000010000"),
+                (contents.encode_loci, {"plmn": "001-01", "area": "0001", "status": "updated"}, "FFFFFFFF00F1100001FF00"),
                 (contents.encode_languages, ["en", "fr"], "656E6672")):
             with self.subTest(given=given):
                 self.assertEqual(encode(given).hex().upper(), content)
@@ -186,10 +186,10 @@ class Commands(unittest.TestCase):
         ("02E000000A62088202782183027F20", "CREATE FILE DF 7F20, channel 2"),
         ("00E000000162", "CREATE FILE of no file: the template is none"),
         ("00FF0000", "unknown instruction FF"),
-        ("00A4", "no command: the bytes have no short form"),
+        ("00A4", "no command: 2 bytes, and a command has at least 4"), ("00", "no command: 1 byte, and a command has at least 4"),
         ("00A400040300", "no command: Lc says 3, and 1 byte follows"),
         ("00A40004013F00FF", "no command: Lc says 1, and 3 bytes follow"),
-        ("00A40004003F00", "no command: the bytes have no short form"),
+        ("00A40004003F00", "no command: it has 00 in the place of Lc, as lengths of two bytes begin, which no card here takes"),
     ]
     # the data of an answer to FETCH, and the last lines of what it says
     PROACTIVE = [

@@ -176,6 +176,7 @@ class Told(unittest.TestCase):
         (["crates/card_laws/", "--word", "63CX"], 0, "crates/card_laws/specs/Guesses.antt:"),
         (["--word", "tells_tries", "--cited-by"], 0, "cited by crates/card_laws/specs/Guesses.antt: is_guess"),
         (["card_laws", "--word", "no such word"], 1, "nothing is found"),
+        (["card_state", "file_model", "toolkit_model", "handset_model", "--theorem", "--bare"], 1, "nothing is found"),
         (["none"], 2, "there is no crate none"),
         ([], 2, "name a crate"),
     ]
@@ -183,6 +184,13 @@ class Told(unittest.TestCase):
     def test_citing(self):
         for places, lines in self.CITING:
             self.assertEqual(list(definitions.citing(places)), lines)
+
+    # of the definitions above, those without a comment directly above
+    BARE = ["bare", "IsRun", "Mode", "two"]
+
+    def test_bare(self):
+        found = [one for one in sources.declared_by_spec("a", "crates/a/specs/B.antt", Sources.SPEC) if one.kind in sources.CITED]
+        self.assertEqual([one.name for one in found if definitions.is_wanted(one, [], None, True)], self.BARE)
 
     def test_runs(self):
         for words, status, part in self.RUNS:

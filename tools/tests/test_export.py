@@ -7,7 +7,7 @@ import unittest
 
 import fuzz_profile
 from common import in_process
-from uicc import access, batch, comparing, contents, fields, image, lint, listing, names, process, profile, profile_text, rights, stored, tree
+from uicc import access, batch, comparing, contents, fields, image, lint, listing, names, process, profile, profile_text, rights, rules, stored, tree
 
 EXAMPLES = os.path.join(process.TOP, "examples")
 
@@ -420,6 +420,42 @@ class Batch(unittest.TestCase):
             self.assertEqual(bytes(card.files[("7F20", "6F7B")].content)[:3].hex(), "62f230")
             on = contents.services_on("ust", bytes(card.files[("7F20", "6F38")].content))
             self.assertLessEqual({28, 29, 19}, on)
+
+    def test_a_key_of_each_card(self):
+        """A key within a list of tables: its own for each card, and what the profile says beside it stays."""
+        self.put(self.card, 'like = "usim"\n[EF_UST]\nservices_on = [124]\n[EF_SUCI_Calc_Info]\n'
+                            'suci = { schemes = [{ scheme = 1, key = 1 }], keys = [{ id = 27, key = "AABB" }, { id = 28, key = "CCDD" }] }\n')
+        other = number_of("899990100000000002")
+        rows = batch.rows_in(f"iccid,EF_SUCI_Calc_Info:keys.key,EF_SUCI_Calc_Info:keys.id,imsi\n{self.ONE},0102,,262010000000001\n"
+                             f"{other},0304,30,262010000000002\n".encode(), "list.csv")
+        shown = [tree.meanings(card_of(card.made.text).files[("7F20", "5FC0", "4F07")], True)
+                 for card in batch.cards(stored.read(self.card), "card.toml", rows, "list.csv", lambda: None)]
+        self.assertEqual(shown, [["scheme 1 with key 1 of the list, keys: 27 is 0102; 28 is CCDD"], ["scheme 1 with key 1 of the list, keys: 30 is 0304; 28 is CCDD"]])
+        done = self.batch(f"iccid,EF_SUCI_Calc_Info:key\n{self.ONE},0102\n")
+        self.assertIn("`key` isn't known: schemes, schemes.scheme, schemes.key, keys, keys.id, keys.key, suci, hex are", done.stderr)
+
+    def test_shapes_and_rules_in_columns(self):
+        """A key of the file's table that says no content: its size, and who may do what."""
+        self.put(self.card, 'like = "usim"\n["7F10/6F99"]\nhex = "01"\n')
+        for cells, why in (("20,pin1 or adm", None), ("20,pin7", "pin7"), ("many,adm", "size is text, and has to be a number"), ("0,adm", "size")):
+            with self.subTest(cells=cells):
+                done = self.batch(f"iccid,7F10/6F99:size,7F10/6F99:update\n{self.ONE},{cells}\n", "--force")
+                self.assertEqual(done.returncode, 2 if why else 0, done.stderr)
+                self.assertIn(why or "", done.stderr)
+        card = card_of(stored.read(os.path.join(self.folder, self.ONE + ".script")).decode(process.ENCODING))
+        file = card.files[("7F10", "6F99")]
+        self.assertEqual((file.size, rules.in_words(access.condition(card, file, "update"))), (20, "pin1 or adm"))
+
+    def test_columns_that_are_passed_over(self):
+        """An operator's list has columns that say nothing of a card here: those that are named, in any letters' case, and no others."""
+        rows = f"ICCID,Ki,note:x\n{self.ONE},00112233445566778899AABBCCDDEEFF,first\n"
+        done = self.batch(rows, "--ignore", "ki,note:x")
+        self.assertEqual((done.returncode, done.stderr), (0, ""))
+        self.assertIn("the column `ki` has no place", self.batch(rows, "--ignore", "note:x").stderr)
+        for words, why in (("ki,note:x,opc", "no column `opc` stands there, which --ignore names"), ("iccid,ki,note:x", "the column `iccid` is missing")):
+            done = self.batch(rows, "--ignore", words, "--force")
+            self.assertEqual(done.returncode, 2)
+            self.assertIn(why, done.stderr)
 
     def test_all_mistakes_of_the_head(self):
         done = self.batch("iccid,EF_XYZ:foo,EF_SPN:sp,ki,imsi,imsi\n")

@@ -52,7 +52,7 @@ class Kinds(unittest.TestCase):
         ("servers", "a.b", 6, "800400612E62"),
         ("ist", [1, 6], 1, "21"),
         ("est", [1], 1, "01"),
-        ("loci", {"tmsi": "FFFFFFFE", "plmn": "001-01", "area": "0001", "status": "updated"}, 11, "FFFFFFFE00F1100001" + "0000"),
+        ("loci", {"tmsi": "FFFFFFFE", "plmn": "001-01", "area": "0001", "status": "updated"}, 11, "FFFFFFFE00F1100001" + "FF00"),
         ("application", {"aid": "A0000000871002", "label": "USIM"}, 19, "610F4F07A00000008710025004" + "5553494D" + "FFFF"),
     ]
     # a kind, a value that no bytes say, and why

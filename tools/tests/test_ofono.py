@@ -1,11 +1,15 @@
 """oFono as the terminal, and ModemManager: what tries make of an exchange, and where Debian's packages are here, sessions with them."""
+import contextlib
+import io
 import os
 import subprocess
 import sys
 import tempfile
+import types
 import unittest
+import unittest.mock
 
-from common import TOOLS
+from common import TOOLS, load
 from uicc import Card, NotBuilt, daemon, modemmanager, ofono, ofono_tries, process, sim
 
 
@@ -91,6 +95,47 @@ class Judged(unittest.TestCase):
             ofono_tries.played_again([*lines[:-1], "< 9000"])
 
 
+class Answers(unittest.TestCase):
+    """What a person answers at the prompt, and what is told where a question can't be answered so."""
+    ITEMS = ["RequestSelection", "Pick", "", [["Milk", ""], ["Bread", ""]], 0]
+    # an answer, the question that it comes to, and what is told of it
+    TABLE = [
+        ("1", ITEMS, None), ("7", ITEMS, "there is no item 7: 0 is Milk, 1 is Bread"), ("Milk", ITEMS, "there is no item `Milk`: 0 is Milk, 1 is Bread"),
+        ("end", ITEMS, None), ("back", ITEMS, None), ("seen", ITEMS, "there is no item `seen`: 0 is Milk, 1 is Bread"),
+        ("yes", ["RequestConfirmation", "Sure?", ""], None), ("no", ["RequestConfirmation", "Sure?", ""], None),
+        ("maybe", ["RequestConfirmation", "Sure?", ""], "`maybe` is neither yes nor no"),
+        ("maybe", ["RequestInput", "Note?", "", "", 0, 20, False], None), ("seen", ["DisplayText", "Hello", "", False], None),
+    ]
+
+    def test_what_is_no_answer(self):
+        tool = load("ofono")
+        for answer, question, why in self.TABLE:
+            with self.subTest(answer=answer, question=question[0]):
+                self.assertEqual(tool.about_answer(tool.answer_of(answer), *question), why)
+
+    def test_to_which_question(self):
+        """An answer goes to a question that comes after it, and none to what is told."""
+        earlier = ["DisplayText", "Hello", "", False]
+        session = types.SimpleNamespace(heard=[earlier], phone=types.SimpleNamespace(answer=lambda *given: None), proactive=lambda: [])
+        session.asked = lambda: session.heard
+        prompt, shown = load("ofono").Prompt(session, False), io.StringIO()
+        with contextlib.redirect_stdout(shown):
+            prompt.onecmd("answer 7 0")
+            session.heard += [self.ITEMS, ["Release"], self.ITEMS]
+            prompt.onecmd("events")
+        asked = "  asks: Pick: Milk, Bread\n"
+        self.assertEqual(shown.getvalue(), f"  shows: Hello\n{asked}  there is no item 7: 0 is Milk, 1 is Bread; the session is ended\n{asked}")
+        self.assertTrue(prompt.failed)
+
+    def test_lines_that_have_nothing_to_tell(self):
+        session = types.SimpleNamespace(heard=[], phone=types.SimpleNamespace(menu=[]), proactive=lambda: [], asked=lambda: [])
+        tool, shown = load("ofono"), io.StringIO()
+        with contextlib.redirect_stdout(shown), unittest.mock.patch.object(tool.ofono_tries, "restart"):
+            for line in ("events", "menu", "power"):
+                tool.Prompt(session, False).onecmd(line)
+        self.assertEqual(shown.getvalue(), "  (nothing since)\n  (the menu is empty)\n  off and on again\n")
+
+
 @unittest.skipIf(MISSING, f"oFono isn't here: {MISSING}")
 @unittest.skipUnless(is_built(), "the program isn't built")
 class Telephone(unittest.TestCase):
@@ -113,7 +158,8 @@ class Telephone(unittest.TestCase):
             ofono_tries.well_formed(session.lines)
 
     def test_the_prompt(self):
-        lines = "sim\npin 0000\npin 1234\nanswer Milk\nonline\nanswer 5 seen\npick Key\npick None\npick\nunblock 1\nanswer \"\nhello\n"
+        lines = ("sim\npin 0000\npin 1234\nanswer Milk\nonline\nanswer 5 seen\npick Key\npick None\npick\nunblock 1\nanswer \"\nhello\n"
+                 "answer 7\npick Menu\n")
         path = os.path.join(self.folder.name, "a.trace")
         ran = subprocess.run([sys.executable, "-B", os.path.join(TOOLS, "ofono"), ofono_tries.TELEPHONE, "--trace", path], input=lines,
                              capture_output=True, text=True, timeout=300, check=False)
@@ -123,7 +169,8 @@ class Telephone(unittest.TestCase):
                      "asks: ? (a key)", "shows: K", "GET INKEY: 00 done", "DISPLAY TEXT: 00 done",
                      "line 8: the menu has no entry `None`: Menu, Note, Key, Local, Again, Reset", "line 9: the form of the line is: pick ENTRY",
                      "line 10: the form of the line is: unblock VALUE NEW", "line 11: No closing quotation: answer ANSWER..",
-                     "line 12: no word `hello` is known: sim, pin, unblock, online, menu, pick, answer, events, power, cut"):
+                     "line 12: no word `hello` is known: sim, pin, unblock, online, menu, pick, answer, events, power, cut",
+                     "there is no item 7: 0 is Text, 1 is Tone; the session is ended", "SELECT ITEM: 10 session terminated by the user"):
             self.assertIn(part, said)
         self.explained(path)
 
@@ -213,6 +260,16 @@ class Tool(unittest.TestCase):
 
 @unittest.skipUnless(daemon.python_with_dbus(), "D-Bus for Python isn't here")
 class Bus(unittest.TestCase):
+    def test_yes_and_no(self):
+        """What is neither ends the session, as a number does that is no item; `no` isn't taken for a truth."""
+        code = (f"import sys; sys.path.insert(0, {TOOLS!r}); import ofono_client\n"
+                "print([ofono_client.yes_or_no(word) for word in ('yes', 'no', True, False)])\n"
+                "for word in ('maybe', None, 0):\n"
+                "    try:\n        print(ofono_client.yes_or_no(word))\n"
+                "    except ValueError as fault:\n        print(fault)\n")
+        done = subprocess.run([daemon.python_with_dbus(), "-B", "-c", code], capture_output=True, text=True, check=False)
+        self.assertEqual(done.stdout.splitlines(), ["[True, False, True, False]", *(f"{word} is neither yes nor no" for word in ("maybe", None, 0))], done.stderr)
+
     def test_a_bus_leaves_nothing_where_it_is_started(self):
         """Its folder is named from the root: a relative one is refused, and nothing is written."""
         with tempfile.TemporaryDirectory() as folder:

@@ -13,7 +13,7 @@ sys.path.insert(0, os.path.join(TOOLS, "page"))
 import bundle
 import making
 import test_contents
-from uicc import contents
+from uicc import contents, names
 
 
 class Bundles(unittest.TestCase):
@@ -106,6 +106,32 @@ class Contents(unittest.TestCase):
         for (kind, content), found in zip(requests, said):
             with self.subTest(kind=kind, content=content.hex()):
                 self.assertEqual(found, contents.decode(kind, content))
+
+
+OF_COMMANDS = """import { Apdu, titleOf } from "./decode.js";
+import { shownPath } from "./names.js";
+const { commands, paths } = JSON.parse(require("fs").readFileSync(0));
+console.log(JSON.stringify([commands.map((bytes) => titleOf(new Apdu(Uint8Array.from(bytes)))), paths.map((path) => shownPath(path, true))]));
+"""
+
+
+@unittest.skipUnless(shutil.which("node"), "node isn't here")
+class Commands(unittest.TestCase):
+    # a file of the MF without a name has the MF before it, also where cuts and the shell show it
+    PATHS = {(): "3F00 MF", ("2FE2",): "2FE2 EF.ICCID", ("6F50",): "3F00/6F50", ("7F10", "6F99"): "7F10/6F99", ("7F20", "6F07"): "7F20/6F07 EF.IMSI"}
+
+    def test_the_page_names_what_the_tools_name(self):
+        """Commands, also bytes that are none, and files."""
+        titles = test_contents.Commands.TITLES
+        with tempfile.NamedTemporaryFile("w", suffix=".js", encoding="utf-8") as text:
+            text.write(bundle.bundle("top", {"tables": making.tables(), "top": OF_COMMANDS}))
+            text.flush()
+            given = {"commands": [list(bytes.fromhex(digits)) for digits, _ in titles], "paths": [list(path) for path in self.PATHS]}
+            done = subprocess.run(["node", text.name], input=json.dumps(given), capture_output=True, text=True, check=True)
+        shown, paths = json.loads(done.stdout)
+        self.assertEqual(dict(zip((digits for digits, _ in titles), shown)), dict(titles))
+        self.assertEqual(paths, list(self.PATHS.values()))
+        self.assertEqual([names.shown(path) for path in self.PATHS], list(self.PATHS.values()))
 
 
 class Rewriting(unittest.TestCase):

@@ -136,6 +136,10 @@ class Doubts(unittest.TestCase):
     # the tables of a profile over a usim, and the warnings of build
     TABLE = [
         ('[EF_IMSI]\nimsi = "26242000000001"\n', ["line 2: [EF_IMSI]: 26242000000001 has 14 digits: nearly all IMSIs have 15"]),
+        ('[EF_IMSI]\nimsi = "262420000000001"\n[EF_AD]\nad = { network_digits = 3 }\n[EF_UST]\nservices_on = [43]\n'
+         '[EF_HPLMNwAcT]\nplmns = ["262-42 by GSM"]\n',
+         ["line 4: [EF_AD]: 7F20/6F62 EF.HPLMNwAcT has 262-42 first, and the IMSI is of 262-420: by EF.AD its network's code has 3 digits"]),
+        ('[EF_IMSI]\nimsi = "262420000000001"\n[EF_UST]\nservices_on = [43]\n[EF_HPLMNwAcT]\nplmns = ["262-42 by GSM"]\n', []),
         ('[EF_ADN]\nread = "always or pin1"\nupdate = "never and pin1"\n',
          ["line 3: [EF_ADN] read: `always or pin1` comes to `always`", "line 4: [EF_ADN] update: `never and pin1` comes to `never`"]),
         ('[EF_ADN]\nupdate = "pin1 and (adm or pin2)"\n', []),
@@ -261,7 +265,7 @@ class Mistakes(unittest.TestCase):
         ('[EF_AD]\nread = "PIN1"', ["line 3: [EF_AD] read: `PIN1` is no condition, but `pin1` is: always"]),
         ('[EF_AD]\nread = "pin1 and (adm"', ["line 3: [EF_AD] read: a bracket isn't closed in a condition"]),
         ('[EF_AD]\nread = "adm)"', ["line 3: [EF_AD] read: `adm)` is no condition: a bracket is closed that isn't open"]),
-        ('[EF_PL]\nlanguages = ["DE"]', ["line 3: [EF_PL] languages: a language is two small letters (ISO 639), as `de`, and not `DE`"]),
+        ('[EF_PL]\nlanguages = ["DE"]', ["line 3: [EF_PL] languages: a language is two lower-case letters (ISO 639), as `de`, and not `DE`"]),
         ('[EF_DIR]\napplications = [{ aid = "A000" }]', ["line 3: [EF_DIR] applications: an AID has 5 to 16 bytes, and A000 has 2"]),
         ('[EF_SPN]\nspn = "A"\nshort = 7', ["line 2: [EF_SPN]: the SFI 7 is taken by 7F20/6F07"]),
         ('[EF_SPN]\nspn = "A"\nsize = 100000', ["line 4: [EF_SPN] size is 100000, and has to be a number from 1 to 32767: size = 17"]),
@@ -276,7 +280,7 @@ class Mistakes(unittest.TestCase):
         ("[EF_HPPLMN]\nminutes = 7", ["line 3: [EF_HPPLMN] minutes: it is a multiple of 6 from 0 to 1530, and not 7"]),
         ('[EF_AD]\nrule = "-"', ['line 2: [EF_AD]: `rule` is an EF_ARR and the number of a record in it, as "2F06:3", or "none"']),
         ('["3F00"]\nhex = "00"', ["line 2: [3F00] is the MF, of which a profile says nothing"]),
-        ('[EF_AD]\nread = "pin1 AND adm"', ["line 3: [EF_AD] read: `pin1 AND adm` is no condition, but `and` and `or` in small letters"]),
+        ('[EF_AD]\nread = "pin1 AND adm"', ["line 3: [EF_AD] read: `pin1 AND adm` is no condition, but `and` and `or` in lower-case letters"]),
         ('[EF_AD]\nread = "or adm"', ["line 3: [EF_AD] read: a condition is missing before `or`"]),
         ('[[applet]]\nkind = "menu"\n[[applet]]\nkind = "menu"\nmenue = "x"', ["line 6: [[applet]] menue isn't known: `menu` is"]),
         ('[[applet]]\nkind = "table"\non = { locaton = ["show A"] }', ["line 2: [[applet]]: the applet on shelf 6: `locaton` is no event, but "

@@ -47,7 +47,7 @@ TABLE = [
     (["00DC0634060080010190", "00B0870001"], None, None),
     (["00E000000A62088202782183027F20"], "6982", "ADM1 isn't verified"),
     (["F0E60103" + "03014000"], "6982", "ADM1 isn't verified"),
-    ([VERIFY_ADM, "00A4000C022F01", "00040000", "00B0810001"], "6985", "2F01 is deactivated"),
+    ([VERIFY_ADM, "00A4000C022F01", "00040000", "00B0810001"], "6985", "3F00/2F01 is deactivated"),
     (["0028000108" + "31323334FFFFFFFF"], "6985", "the PIN is enabled already"),
     (["0070800100"], "6985", "that channel is closed already"),
     (["8010000008" + "2900BF6171000013", "8012000010"], "6985", "no command waits to be fetched"),

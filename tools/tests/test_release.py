@@ -281,6 +281,32 @@ class Releases(unittest.TestCase):
         self.judge(tree.run(), 2, "git ended with 128")
         self.judge(tree.run("--check"), 0, "the same bytes")
 
+    def test_the_page_alone(self):
+        """The page is made anew over the module that it has, with no toolchain, and is what the whole release would be made of."""
+        tree = self.tree()
+        tree.change("tools/page/page.css", "", "/* more */\n")
+        tree.change("examples/second.script", "", "start\n")
+        self.judge(tree.run("--page"), 2, "these have a change that is in no commit")
+        tree.commit()
+        commit = tree.git("rev-parse", "HEAD")
+        os.rename(tree.path("kit/bin/rt"), tree.path("kit/rt"))
+        self.judge(tree.run("--page"), 0, f"uicc_run 0.0.0 of commit {commit[:12]}: dist/uicc_run.html has ")
+        os.rename(tree.path("kit/rt"), tree.path("kit/bin/rt"))
+        self.assertEqual(sorted(tree.git("status", "--porcelain").split()), ["M", "M", "dist/release.txt", "dist/uicc_run.html"])
+        self.judge(tree.run("--check", "--quick"), 0, f"of commit {commit[:12]}: the files are those of the list")
+        self.judge(tree.run("--check"), 0, "the program and the page are the same bytes")
+        self.assertIn(f"Made from commit {commit[:12]}, with kit one;", tree.read("dist/uicc_run.html").decode())
+
+    def test_the_page_alone_of_another_program(self):
+        """Where the program is another one, or what makes the page's module, a whole release is asked for."""
+        for name in ("crates/low/src/lib.rt", "crates.txt", "tools/page/host.c", "tools/page/wasm_clang"):
+            with self.subTest(name=name):
+                tree = self.tree()
+                tree.change(name, "", "# more\n")
+                tree.commit()
+                self.judge(tree.run("--page"), 2, f"was made otherwise: {name}; 'tools/release' makes both anew")
+                self.assertEqual(tree.git("status", "--porcelain"), "")
+
     def test_words(self):
         self.judge(self.tree().run("--quick"), 2, "--quick is for --check")
 

@@ -151,8 +151,8 @@ class Files(unittest.TestCase):
         ("command DISPLAY TEXT alpha-id \"A\"", "`alpha-id` is no object: is `alpha"),
         ("command DISPLAY TEXT text \"A", "quotes come in pairs"),
         ("command DISPLAY TEXT text", "the text is missing"),
-        ("command DISPLAY TEXT text \"Ж\"", "`Ж` is no letter of eight bits: write `ucs2`"),
-        ("command DISPLAY TEXT text gsm7 \"Ж\"", "`Ж` is no letter of the 7-bit alphabet"),
+        ("command DISPLAY TEXT text \"Ж\"", "`Ж` is no character of eight bits: write `ucs2`"),
+        ("command DISPLAY TEXT text gsm7 \"Ж\"", "`Ж` is no character of the GSM 7-bit default alphabet"),
         ("command DISPLAY TEXT text any", "a command is given as it is: text has no"),
         ("command DISPLAY TEXT optional text \"A\"", "a command is given as it is"),
         ("command DISPLAY TEXT qualifier 8", "a qualifier is two hexadecimal digits, not 8"),
@@ -1148,6 +1148,14 @@ class Tool(unittest.TestCase):
             done = tool(self.put(folder, "sequence one", "command MORE TIME without details", "response any"), "--table")
         self.assertIn("\n(no details)  ", done.stdout)
         self.assertNotIn("type 00", done.stdout)
+
+    def test_beyond_the_profile(self):
+        """What the terminal's profile doesn't have is played where that is asked for, to see what is answered."""
+        with tempfile.TemporaryDirectory() as folder:
+            path = self.put(folder, "sequence one", "command POLLING OFF", "response result 31")
+            for words, verdict in (((), "0 passed, 0 failed, 0 inconclusive, 1 not supported"), (("--beyond",), "1 passed, 0 failed, 0 inconclusive, 0 not supported")):
+                with self.subTest(words=words):
+                    self.assertEqual(tool(path, *words).stdout.splitlines()[-1], f"1 sequence on the handset in Python: {verdict}")
 
     def test_the_protocol(self):
         with tempfile.TemporaryDirectory() as folder:

@@ -114,7 +114,7 @@ class Shell(unittest.TestCase):
 
     # the content of an image, the words after --image, and what is said
     IMAGES = [
-        (None, [], "isn't there: where a script or a profile is given too, it is made"), (b"", [], "it has 0 bytes"),
+        (None, [], "isn't there: name a script or a profile too, and its card is put into it"), (b"", [], "it has 0 bytes"),
         (b"ef 2FE2 t 4 2 -\nstart\n", [], "it is no image of a card: it has 22 bytes"), (b"#" * 65_536, [], "the bytes begin with no card"),
         (b"UICC\x02\x00".ljust(image.JOURNAL_SIZE, b"\xFF"), ["--store", "pages"], "is opened without --store pages"),
         (b"UICC\x02\x01".ljust(image.PAGES_SIZE, b"\xFF"), [], "--store pages opens it"),

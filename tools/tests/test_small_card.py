@@ -118,7 +118,7 @@ class SmallCards(unittest.TestCase):
     # cuts
 
     def outcomes(self):
-        script = cutting.read_script(self.put("cut.script", CUT), False)
+        script = cutting.read_script(self.put("cut.script", CUT), "play")
         return cutting.all_outcomes(["play"], script, 2, terminal.Progress(0, ""))
 
     def test_each_command_is_cut(self):

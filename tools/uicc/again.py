@@ -38,7 +38,7 @@ class Whole:
         shown = played.trace[-len(self.once.trace):]
         differing = [(number, first, now) for number, first, now in zip(self.places, self.once.trace, shown) if first != now]
         by_status = tuple(one for one in differing if one[1][-4:] != one[2][-4:])
-        return Ended(way, cutting.changes(self.once.entries, played.entries), by_status or tuple(differing[:1]))
+        return Ended(way, cutting.otherwise(self.once.entries, played.entries), by_status or tuple(differing[:1]))
 
 
 class Repeated:

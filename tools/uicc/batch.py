@@ -76,8 +76,9 @@ def pin_text(value):
     return digits.decode() if digits.isdigit() else value.hex().upper()
 
 
-def rows_in(content, name):
-    """The rows of a list's bytes, each with its line, and a value for each column that isn't empty. BadList, with all that is wrong."""
+def rows_in(content, name, ignored=()):
+    """The rows of a list's bytes, each with its line, and a value for each column that isn't empty, but for columns that are ignored. BadList,
+    with all that is wrong."""
     try:
         text = content.decode("utf-8-sig")
     except UnicodeDecodeError as fault:
@@ -88,14 +89,15 @@ def rows_in(content, name):
     reader, found, faults = csv.reader(io.StringIO(text, newline=""), delimiter=delimiter), [], []
     try:
         columns = [column_of(word.strip()) for word in next(reader, [])]
-        check_columns(columns, name)
+        left_out = {column_of(word.strip()) for word in ignored}
+        check_columns(columns, name, left_out)
         for cells in reader:
             if not any(cell.strip() for cell in cells):
                 continue
             if len(cells) != len(columns):
                 faults.append(f"{name}, line {reader.line_num}: it has {len(cells)} cells, and the first line {len(columns)}")
                 continue
-            found.append((reader.line_num, {column: cell.strip() for column, cell in zip(columns, cells) if cell.strip()}))
+            found.append((reader.line_num, {column: cell.strip() for column, cell in zip(columns, cells) if cell.strip() and column not in left_out}))
     except csv.Error as fault:
         raise BadList(f"{name}, line {reader.line_num}: {fault}") from None
     faults += list(wrong_rows(found, name))
@@ -109,9 +111,11 @@ def column_of(word):
     return word if ":" in word else ALSO.get(word.lower(), word.lower())
 
 
-def check_columns(columns, name):
-    """BadList, with all that is wrong with the first line of a list."""
-    faults = [fault for column in dict.fromkeys(columns) if (fault := about_column(column))]
+def check_columns(columns, name, left_out):
+    """BadList, with all that is wrong with the first line of a list, but for columns that are left out."""
+    faults = [f"no column `{column}` stands there, which --ignore names" for column in sorted(left_out - set(columns))]
+    columns = [column for column in columns if column not in left_out]
+    faults += [fault for column in dict.fromkeys(columns) if (fault := about_column(column))]
     faults += [f"the column `{column}` stands there twice" for column in dict.fromkeys(columns) if columns.count(column) > 1]
     if "iccid" not in columns:
         faults.append("the column `iccid` is missing, by which the cards are called")
@@ -130,34 +134,44 @@ def about_column(column):
             return f"the column `{column}`: {fault}"
         return None
     if column in ABSENT:
-        return f"{ABSENT[column]}: the column `{column}` has no place"
+        return f"{ABSENT[column]}: the column `{column}` has no place; `--ignore {column}` passes it over"
     if column in COLUMNS:
         return None
     meant = SLIPS.get(column) or forms.near(column, list(COLUMNS))
     return f"no column is called `{column}`, " + (f"but `{meant}` is" if meant else f"but {', '.join(COLUMNS)} are, and FILE:KEY, as EF_SMSP:centre")
 
 
-# a column of a file: the kind of what the file holds, and the form of what a cell says: of a whole content (`field` is None), or of a field of
-# its table or of its first entry; `key` is that of the table of the file
-Field = collections.namedtuple("Field", "kind field form key")
+# a column of a file: the kind of what the file holds, and the form of what a cell says: of a whole content (`within` is empty), or of what
+# these keys lead to in its table, in a list always that of the first entry; `key` is that of the table of the file
+Field = collections.namedtuple("Field", "kind within form key")
 
 
 def field_of(file, key):
-    """What a column FILE:KEY says. BadContent, where it says nothing."""
+    """What a column FILE:KEY says, or FILE:KEY.KEY. BadContent, where it says nothing."""
     path = profile.path_of(file)
     entry = names.file(path, True) or names.file(path, False)
     if key in fields.KEYS:
         kind = fields.kind_for(key, entry)
-        return Field(kind, None, kind.form, key)
+        return Field(kind, (), kind.form, key)
+    if key in profile.OF_FILE:
+        return Field(None, (), profile.OF_FILE[key][0], key)
     if key in profile.CHANGES_OF_SERVICES:
         profile.numbers_of(key, [], (entry or {}).get("content"))
-        return Field(None, None, fields.SERVICES, key)
+        return Field(None, (), fields.SERVICES, key)
     kind = fields.KINDS.get((entry or {}).get("content"))
-    table = kind and forms.table_in(kind.form)
-    if table is None or key not in table.keys:
-        known = [*(table.keys if table else ()), *([kind.key] if kind else ()), fields.HEX]
+    within = within_of(kind.form) if kind else {}
+    if key not in within:
+        known = [*within, *([kind.key] if kind else ()), fields.HEX]
         raise BadContent(f"`{key}` isn't known: {', '.join(known)} {'is' if len(known) == 1 else 'are'}")
-    return Field(kind, key, table.keys[key], kind.key)
+    return Field(kind, tuple(key.split(".")), within[key], kind.key)
+
+
+def within_of(form, above=""):
+    """What the table of a form has, by its keys; what a table within it has, by both keys with a point between them."""
+    found, table = {}, forms.table_in(form)
+    for key, one in (table.keys if table else {}).items():
+        found |= {above + key: one, **within_of(one, f"{above}{key}.")}
+    return found
 
 
 def wrong_rows(rows, name):
@@ -235,15 +249,9 @@ def lay_field(found, base, file, field, cell):
     """Lays what a cell says of a file into the profile that its row says. Beside a field what the profile has of the file stays: the other
     fields, and the other entries."""
     table, value, key = found.setdefault(file, {}), value_of(field.form, cell), field.key
-    if field.field is None:
-        table[key] = value
-        return
-    told = table[key] if key in table else said_before(base.get(profile.same_file(base, file), {}), field.kind, file)
-    if isinstance(field.kind.form, forms.ListOf):
-        first, *others = told or [{}]
-        table[key] = [with_field(field.kind.form.one, first, field.field, value), *others]
-    else:
-        table[key] = with_field(field.kind.form, told or {}, field.field, value)
+    if field.within and key not in table:
+        table[key] = said_before(base.get(profile.same_file(base, file), {}), field.kind, file)
+    table[key] = with_field(field.kind and field.kind.form, table.get(key), field.within, value)
 
 
 def value_of(form, cell):
@@ -270,9 +278,17 @@ def said_before(given, kind, file):
                          f"say it by `{kind.key}`") from None
 
 
-def with_field(form, told, key, value):
-    """A table with another value of a key; where it is told by a text alone, that is its first key."""
-    return {**(told if isinstance(told, dict) else {next(iter(forms.table_in(form).keys)): told}), key: value}
+def with_field(form, told, within, value):
+    """What is told by a form, with another value where these keys lead to: of a list in its first entry. A table that is told by a text alone
+    is told by its first key."""
+    if not within:
+        return value
+    if isinstance(form, forms.ListOf):
+        first, *others = told or [None]
+        return [with_field(form.one, first, within, value), *others]
+    keys, (key, *rest) = forms.table_in(form).keys, within
+    table = told if isinstance(told, dict) else {} if told is None else {next(iter(keys)): told}
+    return {**table, key: with_field(keys[key], table.get(key), rest, value)}
 
 
 def cards(content, name, rows, list_name, step):

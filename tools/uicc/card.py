@@ -18,6 +18,8 @@ from .status import Status
 from .toolkit import MEMORY_PROBLEM, Toolkit, ToolkitNow
 
 PROFILE = bytes.fromhex("2900BF6171000013")
+# how a TERMINAL PROFILE begins
+PROFILE_SENT = bytes((0x80, decode.PROFILE))
 WARNINGS = ("6282", "6283")
 # the bytes that a command asks for at most, and those that it carries
 MOST, MOST_DATA = 256, 255
@@ -202,7 +204,7 @@ class Card:
         self.trace, self.pending = [], None
         # faults that are told to the card right before the command that they are for, and those that the next command isn't for
         self._planned, self._spared = [], ()
-        self._fetched = None
+        self._fetched, self._is_profile_sent = None, False
         kinds.warn()
         self._follower, self._toolkit = Follower(self.holds), Toolkit(dict(self.holds.rows))
         try:
@@ -281,6 +283,7 @@ class Card:
         if not 1 <= len(command) <= process.LONGEST_COMMAND:
             raise ValueError(f"a command has 1 to {process.LONGEST_COMMAND} bytes, and not {len(command)}")
         self._arm()
+        self._is_profile_sent |= command.startswith(PROFILE_SENT)
         self.trace.append("> " + decode.hexed(command))
         answer = self._simulator.exchange(command, word)
         if answer is None:
@@ -598,10 +601,12 @@ class Card:
         return self._command(decode.ENVELOPE, 0, 0, as_bytes(content), toolkit=True)
 
     def pick(self, item: int) -> Answer:
-        """The user picks an entry of the card's menu: the shelf of its applet plus one. CardError, where the menu has no such entry; `envelope`
-        sends one all the same."""
+        """The user picks an entry of the card's menu: the shelf of its applet plus one. CardError, where the menu has no such entry, or wasn't told
+        yet; `envelope` sends one all the same."""
         if not isinstance(item, int) or not 0 <= item <= 0xFF:
             raise ValueError(f"an entry of the menu is picked by its number, of one byte, and not by {item!r}")
+        if not self._is_profile_sent:
+            raise CardError("the card tells its menu once it knows the terminal: `profile()` comes first, and after each reset")
         entries = self._toolkit.menu()
         if not self._toolkit.doubt and item not in entries:
             listed = ", ".join(f"{number} ({text.decode('latin-1')})" for number, text in sorted(entries.items()))
@@ -660,6 +665,7 @@ class Card:
         self._follower.reset()
         self._toolkit.reset()
         self.pending = self._fetched = None
+        self._is_profile_sent = False
         self._arm()
         self._has_power = self._simulator.reset()
         self.trace.append(process.RESET if self._has_power else process.CUT)
@@ -689,7 +695,7 @@ def _made(make, given):
 
 def _card_in(path, store):
     if not os.path.exists(path):
-        raise CardError(f"{path} isn't there: where a script or a profile is given too, it is made")
+        raise CardError(f"{path} isn't there: name a script or a profile too, and its card is put into it")
     with open(path, "rb") as content:
         held = content.read()
     try:

@@ -2,12 +2,14 @@
 import contextlib
 import typing
 
-from . import access, contents, layout, names, rules, tree
+from . import access, contents, fields, layout, names, rules, tree
 from .coding import BadContent
 
 # what a terminal reads before a PIN is entered (ETSI TS 102 221, 13; 3GPP TS 31.102, 4.2)
 READ_BY_ALL = {("2F00",), ("2F05",), ("2F06",), ("2FE2",), ("7F20", "6F46"), ("7F20", "6FAD"), ("7F20", "6FB7")}
 TELECOM, IMSI, ACC = ("7F10",), ("7F20", "6F07"), ("7F20", "6F78")
+# administrative data, and the networks that are the subscriber's own
+AD, HOME = ("7F20", "6FAD"), ("7F20", "6F62")
 # the service table of a kind of card
 TABLES = {"usim": (("7F20", "6F38"), "ust"), "sim": (("7F20", "6F38"), "sst")}
 
@@ -44,6 +46,7 @@ def found(card, kind):
             yield Finding(f"{names.key(pin.key)}: its UNBLOCK PIN has {len(digits)} digits, and should have {len(pin.unblock)}")
     yield from wrong_services(card, kind)
     yield from wrong_class(card, usim)
+    yield from wrong_digits(card, usim)
     for files, rule, why in access.pointless(card):
         yield Finding(f"{names.shown(files[0].path, usim)}, rule {rule[0]}:{rule[1]}, {why}{access.others(files)}",
                       tuple(file.path for file in files), True)
@@ -77,6 +80,18 @@ def wrong_class(card, usim):
             if len(classes) == 1 and classes != [digit]:
                 yield Finding(f"{names.shown(ACC, usim)} has class {classes[0]}, and the IMSI ends with {digit}: by its last digit cards are "
                               f"commonly given their class", (ACC, IMSI))
+
+
+def wrong_digits(card, usim):
+    """A home network of the IMSI's country whose code has other digits than the IMSI has after the country, as many as EF_AD says."""
+    imsi, data, home = (card.files.get(path) for path in (IMSI, AD, HOME))
+    with contextlib.suppress(BadContent, ValueError, IndexError, KeyError):
+        if imsi and data and home and not contents.is_blank(imsi.content):
+            digits, count = contents.decode_imsi(bytes(imsi.content)), fields.mode_of(bytes(data.content))["network_digits"]
+            country, network = contents.plmns_act(bytes(home.content))[0].split(" ")[0].split("-")
+            if digits.startswith(country) and count in (2, 3) and digits[3:3 + count] != network:
+                yield Finding(f"{names.shown(HOME, usim)} has {country}-{network} first, and the IMSI is of {country}-{digits[3:3 + count]}: "
+                              f"by {names.name_of(AD, usim)} its network's code has {count} digits", (AD, HOME, IMSI))
 
 
 def unreadable(card, usim):

@@ -347,7 +347,8 @@ def encode_loci(given):
     updated = next((n for n, name in UPDATES.items() if name == given.get("status", "not updated")), None)
     if updated is None:
         raise BadContent(f"`{given['status']}` is no status: {', '.join(UPDATES.values())}")
-    return exact_bytes(given.get("tmsi", "FFFFFFFF"), 4, "a TMSI") + encode_plmn(given["plmn"]) + area + b"\x00" + bytes((updated,))
+    # the byte before the status is reserved, and FF on a new card (3GPP TS 31.102, annex E)
+    return exact_bytes(given.get("tmsi", "FFFFFFFF"), 4, "a TMSI") + encode_plmn(given["plmn"]) + area + b"\xFF" + bytes((updated,))
 
 
 # others
@@ -366,7 +367,7 @@ def decode_languages(content):
 def encode_languages(languages):
     wrong = next((word for word in languages if len(word) != 2 or not word.isalpha() or not word.isascii() or not word.islower()), None)
     if wrong is not None:
-        raise BadContent(f"a language is two small letters (ISO 639), as `de`, and not `{wrong}`")
+        raise BadContent(f"a language is two lower-case letters (ISO 639), as `de`, and not `{wrong}`")
     return "".join(languages).encode()
 
 
@@ -441,6 +442,14 @@ def told(read):
     return decode_fields
 
 
+def decode_suci(content):
+    """Which schemes conceal the SUPI, the most wanted first, each with the key that it takes; and the keys by their identifiers."""
+    found = structured.concealing_of(content)
+    schemes = "; ".join(f"scheme {one['scheme']}" + (f" with key {one['key']} of the list" if one["key"] else "") for one in found["schemes"])
+    keys = "; ".join(f"{one['id']} is {one['key']}" for one in found["keys"])
+    return ", keys: ".join(part for part in (schemes, keys) if part) or None
+
+
 def in_words(value):
     if isinstance(value, dict):
         return ", ".join(f"{key} {in_words(each)}" for key, each in value.items())
@@ -460,7 +469,7 @@ DECODERS = {
     "epsloci": told(lambda content: structured.location_of(content, 12, 2)),
     "5gsloci": told(lambda content: structured.location_of(content, 13, 3)),
     "access-identities": told(structured.access_identities_of), "routing": told(structured.routing_of),
-    "suci": told(structured.concealing_of), "supi-nai": told(structured.identifiers_of), "uri": told(structured.uri_of),
+    "suci": decode_suci, "supi-nai": told(structured.identifiers_of), "uri": told(structured.uri_of),
     "uris": told(structured.uri_of), "servers": told(structured.server_of),
 }
 

@@ -240,9 +240,17 @@ def record_readings(before, every, command, answer, read):
     return [every[n] for n in telling(command, old[:count], new[:count])] or None
 
 
-def play(words, lines):
+def run_over(words, lines, image):
+    """The trace and the status of a run, over a copy of an image where there is one."""
+    if image is None:
+        return simulator.run(words, lines)
+    played = kept.Played(words, lines, image)
+    return played.trace, played.status
+
+
+def play(words, lines, image=None):
     """The lines that the trace shows up to its last reset, and the answers after it."""
-    trace, status = simulator.run(words, lines)
+    trace, status = run_over(words, lines, image)
     if status != 0:
         raise Unplayable(f"uicc_run ended with status {status}: {trace[-1] if trace else 'no trace'}")
     if simulator.RESET not in trace:
@@ -254,8 +262,8 @@ def play(words, lines):
 class Trial:
     """The script's beginning, its last command, and what reads back."""
 
-    def __init__(self, section, lines, back, words=("play",)):
-        self.words, at = list(words), last_command(lines)
+    def __init__(self, section, lines, back, words=("play",), image=None):
+        self.words, self.image, at = list(words), image, last_command(lines)
         self.begin, self.command = [*section, "start", *unplanned(lines[:at])], lines[at]
         *known, (command, self.answer) = exchanges(self.play(self.command, "reset")[0])
         if back is None:
@@ -271,7 +279,7 @@ class Trial:
         return [self.play(*sent, "reset", *back)[1] for sent in ([], [self.command])]
 
     def play(self, *lines):
-        return play(self.words, [*self.begin, *lines])
+        return play(self.words, [*self.begin, *lines], self.image)
 
     def read(self, commands):
         return self.both(list(map(line_of, commands)))
@@ -460,10 +468,12 @@ def cuttable(script):
             if not isinstance(said, Plan) and (not isinstance(said, Tpdu) or said.passed)]
 
 
-def read_script(path, phone):
-    """A script that can be played. Unplayable, where one of its lines is bad."""
+def read_script(path, word, image=None):
+    """A script that can be played by this word of the command line, over an image where one is given. Unplayable, where one of its lines is
+    bad."""
     with open(path, encoding=simulator.ENCODING, newline="\n") as text:
-        script = lint.read(text.read(), "phone" if phone else "play")
+        script = lint.read(text.read(), word)
+    script.image = image
     first = script.first()
     if first:
         raise Unplayable(f"{path}: line {first.line}: {first.reason}")
@@ -488,6 +498,14 @@ def changes(old, new):
     if old is None or new is None:
         return [] if old == new else ["the card"]
     return [entry_name(key) for key in dict.fromkeys([*old, *new]) if old.get(key) != new.get(key)]
+
+
+def otherwise(old, new):
+    """What of a card is otherwise than it should be, in words."""
+    if old is None or new is None:
+        return changes(old, new)
+    return [f"{entry_name(key)} {'is missing' if key not in new else 'is too much' if key not in old else 'differs'}"
+            for key in dict.fromkeys([*old, *new]) if old.get(key) != new.get(key)]
 
 
 def entry_name(key):

@@ -64,8 +64,10 @@ class Apdu:
         if self.ok:
             return None
         sent = self.content[4:5]
-        if not sent or sent == b"\0":
-            return "the bytes have no short form"
+        if not sent:
+            return f"{amount(len(self.content))}, and a command has at least 4"
+        if sent == b"\0":
+            return "it has 00 in the place of Lc, as lengths of two bytes begin, which no card here takes"
         return f"Lc says {sent[0]}, and {len(self.content) - 5} {'byte follows' if len(self.content) == 6 else 'bytes follow'}"
 
     @property

@@ -69,7 +69,7 @@ class Place:
 
 def beginning(words, script):
     """The place before the first step of a script."""
-    return Place(words, 0, [line for line in simulator.card_section(script.lines)[0] if is_said(line)] + ["start"])
+    return Place(words, 0, [line for line in simulator.card_section(script.lines)[0] if is_said(line)] + ["start"], script.image)
 
 
 def is_said(line):
@@ -89,7 +89,7 @@ def places(words, script, between=STEPS_BETWEEN):
     bounds = [at for at in range(between, len(script.steps), between) if not isinstance(script.steps[at - 1][1], Plan)]
     if not bounds:
         return found
-    shown = Shown(words, script)
+    shown = Shown(found[0], script)
     for at, end in zip(bounds, [*bounds[1:], len(script.steps)]):
         # what goes on from a place shows the same as the whole script, or the place is none any more
         while (whole := going_on(script, found[-1], end, shown)) is None:
@@ -137,10 +137,10 @@ def nearest(found, at):
 
 
 class Shown:
-    """What the trace of a whole script shows of each of its steps."""
+    """What the trace of a whole script shows of each of its steps, played from its beginning."""
 
-    def __init__(self, words, script):
-        lines, _, _ = simulator.played(words, "".join(line + "\n" for line in script.lines))
+    def __init__(self, begin, script):
+        lines = begin.play(lines_of(script, 0, len(script.steps))).trace
         counts = [trace.lines_shown(said) for _, said in script.steps]
         ends = list(itertools.accumulate(counts))
         self.of = [lines[end - count:end] for end, count in zip(ends, counts)]

@@ -80,7 +80,7 @@ def parts_in_words(count):
 def wrong_constants(constants, body):
     """The texts of the code that stand in a body without `.now`, which are the letters of a text, and the numbers that have it."""
     if body[0] == "name":
-        return [(body[1], f": {body[1]} is a text of the code, whose letters are {body[1]}.now")] if isinstance(constants.get(body[1]), (list, tuple)) else []
+        return [(body[1], f": {body[1]} is a text of the code, whose characters are {body[1]}.now")] if isinstance(constants.get(body[1]), (list, tuple)) else []
     if body[0] == "field" and body[1][0] == "name" and body[1][1] in constants:
         is_number = isinstance(constants[body[1][1]], int)
         return [(body[1][1], f": {body[1][1]} is a number of the code, and has no .{body[2]}")] if is_number else []

@@ -2,7 +2,7 @@
 import dataclasses
 import re
 
-from . import access, layout, process
+from . import access, decode, layout, process
 from .grammar import OF_CARD, OF_TERMINAL, Apdu, Handset, Start, Tpdu, Wrong, read_line
 
 MOST_BYTES = 16_777_216
@@ -29,11 +29,12 @@ class Finding:
 @dataclasses.dataclass
 class Script:
     """What was made of a script: the card that the lines before `start` describe, the lines after it with their numbers, what
-    is wrong, and the lines as they stand."""
+    is wrong, and the lines as they stand; and the bytes of the image that it is to go on with, None where it describes its card."""
     card: layout.Card
     steps: list
     findings: list
     lines: list
+    image: bytes | None = None
 
     def first(self):
         """The first line that is bad or has no room, as the program would end at it; None where there is none."""
@@ -173,6 +174,10 @@ class Reading:
                     yield Finding(file.line, WARNING, f"RULE {file.rule[0]}:{file.rule[1]} allows nothing: {why}")
         for files, rule, why in access.pointless(self.card):
             yield Finding(files[0].line, WARNING, f"RULE {rule[0]}:{rule[1]}, {why}{access.others(files)}")
+        for number, said in self.steps:
+            fault = decode.Apdu(said.command).fault if isinstance(said, Apdu) else None
+            if fault:
+                yield Finding(number, WARNING, f"these bytes are no command, which the card answers 6700: {fault}")
 
 
 def read(text, mode="play"):

@@ -8,6 +8,7 @@ import re
 DATA = os.path.join(os.path.dirname(os.path.abspath(__file__)), "data")
 # what the folders at these identifiers hold, as data/files.json names it: on this card the files of a USIM lie in 7F20 with those of GSM
 APPLICATIONS = {"7F10": ("TELECOM",), "7F20": ("USIM", "GSM"), "7F21": ("GSM",), "7FF0": ("USIM",), "7FF2": ("ISIM",), "7FFF": ("USIM",)}
+MF = "3F00"
 FOLDERS = {"MF": (), "TELECOM": ("7F10",), "USIM": ("7F20",), "GSM": ("7F20",), "ISIM": ("7FF2",)}
 
 
@@ -116,10 +117,10 @@ def name_of(path, usim=True):
 
 
 def shown(path, usim=True):
-    """A path with its standard name after it."""
-    text = "/".join(path) if path else "3F00"
+    """A path with its standard name after it. A file of the MF without one has the MF before it: else it would look like an identifier alone."""
+    text = "/".join(path) if path else MF
     entry = file(path, usim)
-    return f"{text} {entry['name']}" if entry else text
+    return f"{text} {entry['name']}" if entry else text if len(path) != 1 else f"{MF}/{text}"
 
 
 # how the AIDs of 3GPP begin, USIM's and ISIM's among them

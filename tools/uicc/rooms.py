@@ -82,7 +82,7 @@ def room_for(collected, name):
 
 
 def why_too_long(name, length, room):
-    return f"{name} has {length} letters, and {room[1]} has room for {room[0]}"
+    return f"{name} has {length} characters, and {room[1]} has room for {room[0]}"
 
 
 def findings(collected):

@@ -153,7 +153,7 @@ def single(parts, levels):
     meant = SLIPS.get(words.lower(), words.lower())
     hint = f", but `{meant}` is" if meant in (*KEYS, "always", "never") else ""
     if any(word in ("AND", "OR", "And", "Or") for word in words.split()):
-        hint = ", but `and` and `or` in small letters join some"
+        hint = ", but `and` and `or` in lower-case letters join some"
     raise NoRule(f"`{words}` is no condition{hint}: {KNOWN}")
 
 

@@ -184,14 +184,14 @@ def packed(text):
     try:
         return alphabet.packed(alphabet.codes_of(text))
     except alphabet.NoLetter as fault:
-        raise Wrong(f"`{fault.letter}` is no letter of the 7-bit alphabet") from None
+        raise Wrong(f"`{fault.letter}` is no character of the GSM 7-bit default alphabet") from None
 
 
 def eight_bit(text):
     try:
         return text.encode("latin-1")
     except UnicodeEncodeError as fault:
-        raise Wrong(f"`{text[fault.start]}` is no letter of eight bits: write `ucs2` before the text") from None
+        raise Wrong(f"`{text[fault.start]}` is no character of eight bits: write `ucs2` before the text") from None
 
 
 CODINGS = {"gsm7": lambda text: bytes((SEVEN_BIT,)) + packed(text), "ucs2": lambda text: bytes((UCS2,)) + text.encode("utf-16-be"),

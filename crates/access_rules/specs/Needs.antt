@@ -19,10 +19,12 @@ abbrev pub hold_by : Needs → Conditions → Verified → Bool
 hold_by One conditions seen = some_hold conditions seen
 hold_by Each conditions seen = all_hold conditions seen
 
+-- of no conditions it is false that one holds, and true that each does
 abbrev pub neutral : Needs → Bool
 neutral One = false
 neutral Each = true
 
+-- of two conditions one has to hold (A0), or both (AF)
 abbrev pub joined : Needs → Bool → Bool → Bool
 joined One first second = first || second
 joined Each first second = first && second

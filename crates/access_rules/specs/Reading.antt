@@ -21,6 +21,7 @@ unfoldable pub length_in : List ℕ → Option (ℕ × List ℕ)
 length_in [] = None
 length_in (n ∷ rest) = if nat_le n 127 then Some (n, rest) else if n == 0x81 then long_length_in rest else None
 
+-- an object at the front of some bytes: its tag, its value, and what follows it
 pub record Part : Type 0 where
   pub tag : ℕ
   pub value : List ℕ
@@ -30,6 +31,7 @@ pub record Part : Type 0 where
 unfoldable pub part_of : ℕ → ℕ → List ℕ → Option Part
 part_of tag n bytes = if nat_le n (length bytes) then Some (record { tag = tag; value = take n bytes; rest = drop n bytes }) else None
 
+-- the object at the front, and what follows it: a tag of one byte, a length of at most 255, and as many bytes of value; None where it is cut short
 unfoldable pub part_in : List ℕ → Option Part
 part_in [] = None
 part_in (tag ∷ bytes) = option_and_then (λ found. part_of tag found.0 found.1) (length_in bytes)
@@ -91,6 +93,7 @@ pair_in op seen bytes =
     (λ part. option_and_then (λ mode. named_truth op mode (condition_in (group_truth seen 4) seen part.rest)) (mode_of part.tag part.value))
     (part_in bytes)
 
+-- bytes FF alone, or no bytes, which may follow the last pair of a record
 abbrev pub is_filling : List ℕ → Bool
 is_filling bytes = list_all (λ byte. byte == 0xFF) bytes
 

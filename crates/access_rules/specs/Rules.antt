@@ -13,6 +13,8 @@ pub record Naming : Type 0 where
   pub bit : ℕ
   pub instruction : ℕ
 
+-- the bit and the instruction byte of each operation: READ BINARY, READ RECORD and SEARCH RECORD share a bit, and so do UPDATE BINARY and UPDATE
+-- RECORD; INCREASE has none
 abbrev pub naming : Op → Naming
 naming ReadBinary = record { bit = 0x01; instruction = 0xB0 }
 naming ReadRecord = record { bit = 0x01; instruction = 0xB2 }
@@ -36,6 +38,7 @@ abbrev pub mode_value : Mode → List ℕ
 mode_value (by_bits bits) = bits ∷ []
 mode_value (by_instruction instruction) = instruction ∷ []
 
+-- the mode names the operation: its bit is set in the access mode byte, or the instruction byte is its own
 abbrev pub names : Mode → Op → Bool
 names (by_bits bits) op = not (bit_and bits (naming op).bit == 0)
 names (by_instruction instruction) op = instruction == (naming op).instruction

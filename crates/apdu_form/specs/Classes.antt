@@ -9,6 +9,7 @@ family class = class / 16 * 16
 abbrev pub names_channel : ℕ → Bool
 names_channel class = family class == 0x00 || family class == 0x80
 
+-- a class that the card takes: 0X and 8X, and F0, in which it has commands of its own
 abbrev pub is_class : ℕ → Bool
 is_class class = names_channel class || class == 0xF0
 

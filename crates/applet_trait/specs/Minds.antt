@@ -28,10 +28,12 @@ minds_of mind boxes = map (option_map mind) boxes
 abbrev pub kind_on : List (Option AppletState) → ℕ → Option ℕ
 kind_on minds shelf = option_map (λ mind. mind.kind) (slice_index_or minds shelf None)
 
+-- what an applet does, and its mind then
 pub record Turn : Type 0 where
   pub does : Act
   pub next : AppletState
 
+-- the mind is in this phase
 abbrev pub in_phase : ℕ → AppletState → Bool
 in_phase phase mind = mind.phase == phase
 

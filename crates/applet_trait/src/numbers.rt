@@ -1,6 +1,6 @@
 //! Numbers by which applets go.
 
-/// The last general result of a command that was performed (ETSI TS 102 223, 8.12).
+/// The last general result of a command that was performed and that the user did not end (`0X` of ETSI TS 102 223, 8.12).
 pub const LAST_GOOD: u8 = 0x0F;
 
 /// How many bytes an applet asks to be kept, at most.

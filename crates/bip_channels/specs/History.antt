@@ -29,11 +29,12 @@ channel_after size (Asked count ∷ earlier) = (unless_dropped (receiving count)
 channel_after size (Echoed count ∷ earlier) = came_back count (channel_after size earlier)
 channel_after size (Lost ∷ earlier) = record (channel_after size earlier) { dropped = true }
 
--- the first object of a reply is its result
+-- the first byte of a result is this general result (ETSI TS 102 223, 8.12)
 abbrev pub begins_with : ℕ → List ℕ → Bool
 begins_with general [] = false
 begins_with general (first ∷ others) = first == general
 
+-- the first object of a reply is its result, and it says that the command was performed (00)
 abbrev pub is_performed : List Object → Bool
 is_performed [] = false
 is_performed (result ∷ objects) = begins_with PERFORMED result.value

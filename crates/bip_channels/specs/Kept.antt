@@ -6,7 +6,7 @@ use Rattle.comprehension_tlv.specs.Model.{Object}
 use Rattle.bip_channels.specs.declared.channels.Link.{Link}
 use Rattle.bip_channels.specs.declared.channels.Link.TheVariants.{Closed, Up, Dropped}
 use Rattle.bip_channels.specs.declared.channels.TheConstants.{MOST_SIZE, MOST_OUTGOING, RING}
-use Rattle.bip_channels.specs.declared.codes.TheConstants.{NONE_AVAILABLE, LINK_IS_DOWN, NOT_VALID, SIZE_NOT_AVAILABLE}
+use Rattle.bip_channels.specs.declared.codes.TheConstants.{NONE_AVAILABLE, CHANNEL_CLOSED, NOT_VALID, SIZE_NOT_AVAILABLE}
 use Rattle.bip_channels.specs.declared.commands.BipCommand.{BipCommand}
 use Rattle.bip_channels.specs.declared.commands.BipCommand.TheVariants.{OpenChannel, CloseChannel, ReceiveBytes, SendBytes, ChannelStatus}
 use Rattle.bip_channels.specs.Channels.{BipChannel, IsSound, Outcome, outcome, Carried, carried, at_place, Noted, noted, Reported, on_number}
@@ -85,7 +85,7 @@ kept_closing held =
 
 abbrev pub if_up : (Held → Outcome Held) → Held → Outcome Held
 if_up work held =
-    by_link held.link (outcome held (protocol_error NOT_VALID)) (outcome held (protocol_error LINK_IS_DOWN)) (work held)
+    by_link held.link (outcome held (protocol_error NOT_VALID)) (outcome held (protocol_error CHANNEL_CLOSED)) (work held)
 
 abbrev pub kept_with_bytes : List ℕ → Bool → Held → Held
 kept_with_bytes bytes false held = record held { stored = held.stored + length bytes; bytes = held.bytes ++ bytes }

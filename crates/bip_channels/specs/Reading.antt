@@ -28,6 +28,7 @@ is_default_bearer _ = false
 
 -- ---- the rows, with the qualifier and the device identities of the command
 
+-- OPEN CHANNEL (6.6.27): set up at once, over the default bearer, with a buffer of the size that it has; in another form it is BadData
 unfoldable pub opening_in : ℕ → List ℕ → List ℕ → Result BipCommand ProactiveFault
 opening_in qualifier devices content = do
   bearer ← needed BEARER_DESCRIPTION content
@@ -35,11 +36,13 @@ opening_in qualifier devices content = do
   bytes ← two_bytes size
   if (qualifier == AT_ONCE) && (is_pair devices CARD TERMINAL && is_default_bearer bearer) then Ok (OpenChannel (256 * bytes.0 + bytes.1)) else Err BadData
 
+-- CLOSE CHANNEL (6.6.28), with the qualifier 00: the channel
 unfoldable pub closing_in : ℕ → List ℕ → Result BipCommand ProactiveFault
 closing_in qualifier devices = do
   channel ← channel_of devices
   if qualifier == NONE then Ok (CloseChannel channel) else Err BadData
 
+-- RECEIVE DATA (6.6.29), with the qualifier 00: the channel, and how many bytes are asked for
 unfoldable pub receiving_in : ℕ → List ℕ → List ℕ → Result BipCommand ProactiveFault
 receiving_in qualifier devices content = do
   value ← needed CHANNEL_DATA_LENGTH content
@@ -47,15 +50,18 @@ receiving_in qualifier devices content = do
   channel ← channel_of devices
   if qualifier == NONE then Ok (ReceiveBytes channel count) else Err BadData
 
+-- SEND DATA (6.6.30): the channel, the bytes, and by the qualifier whether they are sent at once (01) or kept (00)
 unfoldable pub sending_in : ℕ → List ℕ → List ℕ → Result BipCommand ProactiveFault
 sending_in qualifier devices content = do
   bytes ← needed CHANNEL_DATA content
   channel ← channel_of devices
   if nat_le qualifier SEND_NOW then Ok (SendBytes channel bytes (qualifier == SEND_NOW)) else Err BadData
 
+-- GET CHANNEL STATUS (6.6.31), to the terminal and with the qualifier 00
 unfoldable pub status_in : ℕ → List ℕ → Result BipCommand ProactiveFault
 status_in qualifier devices = if (qualifier == NONE) && is_pair devices CARD TERMINAL then Ok ChannelStatus else Err BadData
 
+-- what a command of this type says; a type without a row is UnknownType
 unfoldable pub command_in : ℕ → ℕ → List ℕ → List ℕ → Result BipCommand ProactiveFault
 command_in kind qualifier devices content =
     if kind == OPEN_CHANNEL then opening_in qualifier devices content

@@ -13,7 +13,7 @@ use Rattle.toolkit_commands.specs.declared.faults.ProactiveFault.TheVariants.{Tl
 use Rattle.toolkit_commands.specs.declared.results.TheConstants.{PERFORMED, UNABLE_TO_PROCESS, TYPE_NOT_UNDERSTOOD, DATA_NOT_UNDERSTOOD, VALUES_MISSING}
 use Rattle.toolkit_commands.specs.declared.tags.TheConstants.{EVENT_DOWNLOAD, COMMAND_DETAILS, DEVICE_IDENTITIES, RESULT, EVENT_LIST}
 use Rattle.bip_channels.specs.Rules.{in_a_byte}
-use Rattle.bip_channels.specs.declared.codes.TheConstants.{BEARER_DESCRIPTION, CHANNEL_DATA, CHANNEL_DATA_LENGTH, CHANNEL_STATUS, BUFFER_SIZE, DEFAULT_BEARER, PARTLY_PERFORMED, PROTOCOL_ERROR, LINK_UP, NOTHING_MORE, LINK_DROPPED}
+use Rattle.bip_channels.specs.declared.codes.TheConstants.{BEARER_DESCRIPTION, CHANNEL_DATA, CHANNEL_DATA_LENGTH, CHANNEL_STATUS, BUFFER_SIZE, DEFAULT_BEARER, MISSING_INFORMATION, PROTOCOL_ERROR, LINK_UP, NOTHING_MORE, LINK_DROPPED}
 
 -- the terminal speaks to the card (8.7)
 abbrev pub from_terminal : Object
@@ -36,6 +36,7 @@ count_object count = required CHANNEL_DATA_LENGTH (in_a_byte count ∷ [])
 
 -- ---- results (8.12), and the objects behind them
 
+-- the command was performed, with these objects behind the result
 abbrev pub performed : List Object → List Object
 performed objects = result_object PERFORMED ∷ objects
 
@@ -47,6 +48,7 @@ protocol_error cause = required RESULT (PROTOCOL_ERROR ∷ cause ∷ []) ∷ []
 abbrev pub unable : List Object
 unable = required RESULT (UNABLE_TO_PROCESS ∷ 0x00 ∷ []) ∷ []
 
+-- the channel was opened: its status, the default bearer and the size of its buffer
 abbrev pub opened : ℕ → ℕ → List Object
 opened channel size =
     performed (status_object channel false ∷ required BEARER_DESCRIPTION (DEFAULT_BEARER ∷ []) ∷ required BUFFER_SIZE (to_be_bytes w16 size) ∷ [])
@@ -54,7 +56,7 @@ opened channel size =
 -- the bytes that were taken, fewer than were asked for or not, and how many are left
 abbrev pub taken_bytes : Bool → List ℕ → ℕ → List Object
 taken_bytes is_short bytes left =
-    result_object (if is_short then PARTLY_PERFORMED else PERFORMED) ∷ required CHANNEL_DATA bytes ∷ count_object left ∷ []
+    result_object (if is_short then MISSING_INFORMATION else PERFORMED) ∷ required CHANNEL_DATA bytes ∷ count_object left ∷ []
 
 -- the status of each open channel, or that there is none
 abbrev pub or_none : List Object → List Object
@@ -77,6 +79,7 @@ heading details = required COMMAND_DETAILS (details.number ∷ details.kind ∷ 
 abbrev pub response : Details → List Object → List ℕ
 response details reply = spellings (required COMMAND_DETAILS (details.number ∷ details.kind ∷ details.qualifier ∷ []) ∷ from_terminal ∷ reply)
 
+-- the envelope of an event: its code, the devices, and what is told of it
 abbrev pub event : ℕ → List Object → List ℕ
 event code objects = tagged EVENT_DOWNLOAD (spellings (required EVENT_LIST (code ∷ []) ∷ from_terminal ∷ objects))
 

@@ -19,6 +19,7 @@ pub data Occurrence : Type 0 where
   -- the network drops the link of a channel
   Cuts : ℕ → Occurrence
 
+-- the channels after one thing that happened
 abbrev pub after_one : Occurrence → List (Option BipChannel) → List (Option BipChannel)
 after_one (Commands bytes) channels = (answered bytes channels).channels
 after_one (Echoes number count) channels = (echoed number count channels).channels
@@ -35,6 +36,7 @@ channel_at place history = slice_index_or (channels_after history) place None
 
 -- ---- what one command gives and gets
 
+-- the bytes of a SEND DATA for the channel at this place that was performed; another command gives none
 abbrev pub gives : ℕ → BipCommand → List Object → List ℕ
 gives place (OpenChannel size) reply = []
 gives place (CloseChannel number) reply = []
@@ -42,6 +44,7 @@ gives place (ReceiveBytes number count) reply = []
 gives place (SendBytes number bytes now) reply = if number - 1 == place then accepted bytes reply else []
 gives place ChannelStatus reply = []
 
+-- the bytes that a RECEIVE DATA brings from the channel at this place; another command gets none
 abbrev pub gets : ℕ → BipCommand → List Object → List ℕ
 gets place (OpenChannel size) reply = []
 gets place (CloseChannel number) reply = []
@@ -49,20 +52,23 @@ gets place (ReceiveBytes number count) reply = if number - 1 == place then broug
 gets place (SendBytes number bytes now) reply = []
 gets place ChannelStatus reply = []
 
+-- what a command gives that was read; one that couldn't be gives nothing
 abbrev pub gives_if_read : ℕ → List (Option BipChannel) → Result (Details × BipCommand) ProactiveFault → List ℕ
 gives_if_read place channels (Ok x) = gives place x.1 (carried_out x.1 channels).reply
 gives_if_read place channels (Err fault) = []
 
+-- what a command gets that was read; one that couldn't be gets nothing
 abbrev pub gets_if_read : ℕ → List (Option BipChannel) → Result (Details × BipCommand) ProactiveFault → List ℕ
 gets_if_read place channels (Ok x) = gets place x.1 (carried_out x.1 channels).reply
 gets_if_read place channels (Err fault) = []
 
--- only a command gives or gets bytes
+-- what the card gives to the channel at this place as one thing happens: only a command gives bytes
 abbrev pub gives_now : ℕ → List (Option BipChannel) → Occurrence → List ℕ
 gives_now place channels (Commands bytes) = gives_if_read place channels (bip_of bytes)
 gives_now place channels (Echoes number count) = []
 gives_now place channels (Cuts number) = []
 
+-- what the card gets from the channel at this place as one thing happens: only a command gets bytes
 abbrev pub gets_now : ℕ → List (Option BipChannel) → Occurrence → List ℕ
 gets_now place channels (Commands bytes) = gets_if_read place channels (bip_of bytes)
 gets_now place channels (Echoes number count) = []

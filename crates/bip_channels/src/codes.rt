@@ -34,15 +34,15 @@ pub const DEFAULT_BEARER: u8 = 0x03;
 /// The device identities of the channels 1 to 7 are their numbers and this (8.7).
 pub const CHANNEL_DEVICES: u8 = 0x20;
 
-/// General results (8.12): less was there than was asked for, and an error of the protocol, whose cause follows.
-pub const PARTLY_PERFORMED: u8 = 0x02;
+/// General results (8.12): performed, with missing information, and an error of the protocol, whose cause follows.
+pub const MISSING_INFORMATION: u8 = 0x02;
 
 pub const PROTOCOL_ERROR: u8 = 0x3A;
 
 /// Causes of an error of the protocol (8.12.11).
 pub const NONE_AVAILABLE: u8 = 0x01;
 
-pub const LINK_IS_DOWN: u8 = 0x02;
+pub const CHANNEL_CLOSED: u8 = 0x02;
 
 pub const NOT_VALID: u8 = 0x03;
 

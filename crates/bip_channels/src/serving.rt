@@ -7,7 +7,7 @@ ghost use Rattle.bip_channels.specs.Replies.{taken_bytes};
 ghost use Rattle.bip_channels.specs.Rules.{fits, received, is_short};
 
 use crate::channels::{Channel, Link, MOST_RECEIVED};
-use crate::codes::{LINK_IS_DOWN, NOT_VALID, PARTLY_PERFORMED};
+use crate::codes::{CHANNEL_CLOSED, MISSING_INFORMATION, NOT_VALID};
 use crate::responses::{
     bytes_available, link_lost, put_bytes, put_count, put_error, put_result, put_unable,
 };
@@ -48,10 +48,10 @@ fn take(channel: &mut Channel, asked: usize, count: usize, objects: &mut TlvWrit
 
 /// The result of a RECEIVE DATA: less was there than was asked for, or not.
 fn result_of(count: usize, asked: usize) -> u8
-    ensures { result ≡ (if is_short count asked then PARTLY_PERFORMED else PERFORMED) }
+    ensures { result ≡ (if is_short count asked then MISSING_INFORMATION else PERFORMED) }
 {
     if count < asked && count < MOST_RECEIVED {
-        PARTLY_PERFORMED
+        MISSING_INFORMATION
     } else {
         PERFORMED
     }
@@ -65,7 +65,7 @@ pub fn receive(channel: &mut Channel, asked: u8, objects: &mut TlvWriter)
 {
     match channel.link() {
         Link::Closed => put_error(objects, NOT_VALID),
-        Link::Dropped => put_error(objects, LINK_IS_DOWN),
+        Link::Dropped => put_error(objects, CHANNEL_CLOSED),
         Link::Up => {
             let asked = usize::from(asked);
             let count = asked.min(channel.waiting().min(MOST_RECEIVED));
@@ -101,7 +101,7 @@ pub fn send(channel: &mut Channel, bytes: &[u8], now: bool, objects: &mut TlvWri
 {
     match channel.link() {
         Link::Closed => put_error(objects, NOT_VALID),
-        Link::Dropped => put_error(objects, LINK_IS_DOWN),
+        Link::Dropped => put_error(objects, CHANNEL_CLOSED),
         Link::Up => {
             if channel.fits(bytes.len(), now) {
                 accept(channel, bytes, now, objects)

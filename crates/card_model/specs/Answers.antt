@@ -49,6 +49,7 @@ on_files card channel outcome = record {
   commits = outcome.passed;
 }
 
+-- what a card holds for good, with other PINs
 abbrev pub with_pins : Persistent → List HeldPin → Persistent
 with_pins persistent pins = record persistent { pins = pins }
 
@@ -64,6 +65,7 @@ on_pins card outcome = record {
   commits = map (with_pins card.persistent) outcome.passed;
 }
 
+-- MANAGE CHANNEL says what each channel has selected then, and commits nothing
 abbrev pub on_channels : CardState → ChannelOutcome → Answered
 on_channels card outcome = record {
   body = outcome.body;
@@ -107,21 +109,27 @@ selection_on card channel = unwrap_or (selected_on card.channels channel) AT_STA
 abbrev pub seen_by : CardState → Verified
 seen_by card = keys_seen card.persistent.pins card.verified
 
+-- a command on files as it was carried out on the card, or its refusal
 abbrev pub file_tried : CardState → Apdu → Result FileOutcome StatusWord → Result Answered StatusWord
 file_tried card apdu outcome = and_given outcome (λ done. Ok (on_files card (channel_of apdu.class) done))
 
+-- the same of a PIN command
 abbrev pub pin_tried : CardState → Result PinOutcome StatusWord → Result Answered StatusWord
 pin_tried card outcome = and_given outcome (λ done. Ok (on_pins card done))
 
+-- the same of MANAGE CHANNEL
 abbrev pub managed : CardState → Result ChannelOutcome StatusWord → Result Answered StatusWord
 managed card outcome = and_given outcome (λ done. Ok (on_channels card done))
 
+-- the same of a command that makes, deletes or resizes a file
 abbrev pub tree_tried : CardState → Result TreeOutcome StatusWord → Result Answered StatusWord
 tree_tried card outcome = and_given outcome (λ done. Ok (on_trees card done))
 
+-- the same of a command of the toolkit
 abbrev pub toolkit_tried : CardState → Result ToolkitOutcome StatusWord → Result Answered StatusWord
 toolkit_tried card outcome = and_given outcome (λ done. Ok (on_toolkit card done))
 
+-- what a command comes to on the card, or its refusal, by its instruction
 unfoldable pub carried_out : Instruction → CardState → Apdu → Result Answered StatusWord
 carried_out (File command) card apdu = file_tried card apdu (file_outcome command card.persistent (seen_by card) (selection_on card (channel_of apdu.class)) apdu)
 carried_out (Pin command) card apdu = pin_tried card (pin_outcome command card.persistent.pins card.verified apdu)
@@ -137,10 +145,12 @@ then_polled answered =
     let later = on_toolkit answered.state (coming_to answered.state [] (polled (toolkit_of answered.state))) in
     record answered { state = later.state; commits = answered.commits ++ later.commits }
 
+-- the instruction is that of STATUS
 abbrev pub is_status : Instruction → Bool
 is_status (File Status) = true
 is_status _ = false
 
+-- after STATUS the applets that are registered for it run, after another command nothing more happens
 abbrev pub event_told : Bool → Answered → Answered
 event_told true answered = then_polled answered
 event_told false answered = answered
@@ -158,6 +168,7 @@ abbrev pub settled : CardState → Result Answered StatusWord → Answered
 settled card (Err status) = refused card status
 settled card (Ok answered) = answered
 
+-- the data of the answer are cut to Le, if there is one
 abbrev pub cut_answer : Option ℕ → Answered → Answered
 cut_answer expected answered = record answered { body = cut_to expected answered.body }
 
@@ -176,6 +187,7 @@ abbrev pub told_pending : Option ℕ → StatusWord → StatusWord
 told_pending None status = status
 told_pending (Some count) status = if status.0 == DONE.0 then record { 0 = 0x9100 + count } else status
 
+-- the status says that a command is there to be fetched, if one is
 abbrev pub with_pending : Answered → Answered
 with_pending answered = record answered { status = told_pending (pending answered.state.session) answered.status }
 
@@ -191,6 +203,7 @@ passed_of knows card bytes = card.persistent ∷ (answer_of knows card bytes).co
 abbrev pub answer : CardState → List ℕ → Answered
 answer card bytes = answer_of is_known card bytes
 
+-- what it held for good before the command and after each of its commits, where it knows all its instructions
 abbrev pub passed : CardState → List ℕ → List Persistent
 passed card bytes = passed_of is_known card bytes
 

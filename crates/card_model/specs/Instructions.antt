@@ -24,12 +24,16 @@ pub record InstructionRow : Type 0 where
   pub instruction : Instruction
   pub is_basic : Bool
 
+-- a command that is taken on each channel
 abbrev pub instruction_row : ℕ → ℕ → Instruction → InstructionRow
 instruction_row class ins instruction = record { class = class; ins = ins; instruction = instruction; is_basic = false }
 
+-- a command that is taken on the basic channel alone
 abbrev pub basic_row : ℕ → ℕ → Instruction → InstructionRow
 basic_row class ins instruction = record { class = class; ins = ins; instruction = instruction; is_basic = true }
 
+-- the commands of ETSI TS 102 221; INSTALL and DELETE of an applet, which are the card's own, in class F0; CREATE, DELETE and RESIZE FILE of
+-- ETSI TS 102 222
 abbrev pub instructions : List InstructionRow
 instructions =
     instruction_row 0x00 0xA4 (File Select)

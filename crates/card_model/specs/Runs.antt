@@ -22,6 +22,7 @@ use Rattle.card_model.specs.Answers.{answer, passed}
 abbrev pub box_left : List Registration → List Registration → ℕ → Option AppletState → Option AppletState
 box_left before after shelf box = if is_some (row_on before shelf) && is_none (row_on after shelf) then None else box
 
+-- the boxes after a command that left these rows, each on its shelf
 abbrev pub boxes_left : List Registration → List Registration → List (Option AppletState) → List (Option AppletState)
 boxes_left before after boxes = map (λ box. box_left before after box.0 box.1) (enumerate_from 0 boxes)
 
@@ -53,6 +54,7 @@ pub record PowerIsLost (old : Machine) (apdu : List ℕ) (items : List TraceItem
   pub left : IsLeft old.card (passed old.card apdu) card
   pub moved : new ≡ unpowered card
 
+-- a command to a card that has power: the card answers, its memory fails, or power is lost
 abbrev pub Commands : Machine → List ℕ → List TraceItem → Machine → Type 0
 Commands old apdu items new = Exchanges old apdu items new ⊎ MemoryFails old apdu items new ⊎ PowerIsLost old apdu items new
 
@@ -63,6 +65,7 @@ pub record MeetsNoPower (old : Machine) (apdu : List ℕ) (items : List TraceIte
 
 -- ---- a reset
 
+-- the card is as a reset leaves it, with power
 pub record Restarts (old : Machine) (items : List TraceItem) (new : Machine) : Type 0 where
   pub seen : items ≡ item.Reset ∷ []
   pub moved : new ≡ powered (restarted old.card)
@@ -125,6 +128,7 @@ plans_joined waiting plan = record {
 abbrev pub due : Plan → List Plan
 due waiting = if names_fault waiting then waiting ∷ [] else []
 
+-- the plans that the steps set, where this one waits before them: before each command and each reset all that came up to it, joined to one
 abbrev pub armed_after : Plan → List Step → List Plan
 armed_after waiting [] = []
 armed_after waiting (step.Plan plan ∷ more) = armed_after (plans_joined waiting plan) more

@@ -28,14 +28,17 @@ pub record Machine : Type 0 where
   pub card : CardState
   pub on : Bool
 
+-- a card with power
 abbrev pub powered : CardState → Machine
 powered card = record { card = card; on = true }
 
+-- a card without power
 abbrev pub unpowered : CardState → Machine
 unpowered card = record { card = card; on = false }
 
 -- ---- after a reset
 
+-- no key is verified
 abbrev pub nothing_verified : Verified
 nothing_verified = record { pin1 = false; pin2 = false; adm1 = false }
 
@@ -65,10 +68,11 @@ pub record AreChannels (persistent : Persistent) (channels : List (Option Select
 abbrev pub HasBox : List (Option AppletState) → Registration → Type 0
 HasBox boxes row = IsSomeAnd (slice_index_or boxes row.shelf None) (λ mind. mind.kind ≡ row.kind)
 
--- each box has an applet of a known kind, or is empty
+-- the applet is of a known kind
 abbrev pub IsOfKnownKind : AppletState → Type 0
 IsOfKnownKind mind = IsAppletKind mind.kind
 
+-- each box has an applet of a known kind, or is empty
 abbrev pub AreOfKnownKinds : List (Option AppletState) → Type 0
 AreOfKnownKinds boxes = All (λ box. IfSome box IsOfKnownKind) boxes
 

@@ -37,15 +37,17 @@ toolkit_of card = record { rows = card.persistent.rows; session = card.session; 
 abbrev pub coming_to : CardState → List ℕ → Passed → ToolkitOutcome
 coming_to card body passed = record { body = body; passed = passed; next_sequence = card.persistent.next_sequence }
 
--- what the card held for good after each commit
+-- what the card held for good, with other rows and another next sequence number
 abbrev pub with_rows : Persistent → ℕ → List Registration → Persistent
 with_rows persistent next_sequence rows = record persistent { rows = rows; next_sequence = next_sequence }
 
+-- what the card held for good after each commit
 abbrev pub states_passed : Persistent → ToolkitOutcome → List Persistent
 states_passed persistent outcome = map (with_rows persistent outcome.next_sequence) (passed_rows outcome.passed.log)
 
 -- ---- TERMINAL PROFILE (11.2.1)
 
+-- TERMINAL PROFILE: what it comes to; it is refused where P1 and P2 are not 00 (6A86) and without data (6700)
 unfoldable pub profile_taken : CardState → Apdu → Result ToolkitOutcome StatusWord
 profile_taken card apdu =
     needs (has_no_parameters apdu) WRONG_PARAMETERS (
@@ -102,6 +104,7 @@ row_status Spent = NO_ROOM
 row_status NoRow = REFERENCE_NOT_FOUND
 row_status NotIdle = CONDITIONS_NOT_SATISFIED
 
+-- the row, or the status of its fault
 abbrev pub row_or_status : Result Registration RowFault → Result Registration StatusWord
 row_or_status (Ok row) = Ok row
 row_or_status (Err fault) = Err (row_status fault)
@@ -110,6 +113,7 @@ row_or_status (Err fault) = Err (row_status fault)
 abbrev pub has_shelf : Apdu → Bool
 has_shelf apdu = nat_le apdu.p2 31
 
+-- the kind of the applet in the box on a shelf, if there is one
 abbrev pub kind_in : CardState → ℕ → Option ℕ
 kind_in card shelf = option_map (λ mind. mind.kind) (mind_on card.boxes shelf)
 

@@ -6,6 +6,7 @@ use Rattle.card_state.specs.declared.entries.PinSlot.{PinSlot}
 use Rattle.card_state.specs.declared.entries.Row.{Row}
 use Rattle.card_state.specs.declared.entries.Loaded.{Loaded}
 
+-- the entry of no file: it is not used, and all its numbers are 0
 abbrev pub unused_node : Node
 unused_node = record {
   used = false;
@@ -22,9 +23,11 @@ unused_node = record {
   head = 0;
 }
 
+-- the slot of no PIN: without a key, not enabled, without tries, with values of eight bytes 00
 abbrev pub absent_pin : PinSlot
 absent_pin = record { key = 0; enabled = false; tries = 0; unblock_tries = 0; value = record { 0 = replicate 8 0 }; unblock = record { 0 = replicate 8 0 } }
 
+-- the row of no applet: it is not used, all its numbers are 0, and it has no text and keeps no bytes
 abbrev pub unused_row : Row
 unused_row = record { used = false; kind = 0; priority = 0; sequence = 0; events = 0; text = []; kept = [] }
 

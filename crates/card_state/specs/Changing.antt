@@ -5,6 +5,7 @@ use Rattle.card_state.specs.Persistent.{Contents, Files, Bytes, Records, File, P
 use Rattle.card_state.specs.Soundness.{slot_of_key}
 use Rattle.card_state.specs.Sections.{sorted_codes}
 
+-- the element that is there as a list of one, or the empty list where there is none
 abbrev pub listed : {X : Type 0} → Option X → List X
 listed None = []
 listed (Some x) = x ∷ []

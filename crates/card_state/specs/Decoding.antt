@@ -59,12 +59,15 @@ row_of bytes more = record {
   kept = take (slice_index bytes 18) (slice_range bytes 19 ROW_WIDTH ++ more);
 }
 
+-- the 16 bytes of the entry of a file
 abbrev pub node_bytes : List ℕ → ℕ → List ℕ
 node_bytes content number = bytes_at content (node_place number) NODE_WIDTH
 
+-- the 20 bytes of a PIN slot
 abbrev pub pin_bytes : List ℕ → ℕ → List ℕ
 pin_bytes content slot = bytes_at content (pin_place slot) PIN_WIDTH
 
+-- the 51 bytes of the row of a shelf
 abbrev pub row_bytes : List ℕ → ℕ → List ℕ
 row_bytes content shelf = bytes_at content (row_place shelf) ROW_WIDTH
 
@@ -84,16 +87,19 @@ bytes_apart content shelf = if is_wide content then kept_bytes content shelf els
 abbrev pub node_in : List ℕ → Node
 node_in bytes = let node = node_of bytes in if node.used then node else unused_node
 
+-- the PIN slot in these bytes; where it has no key, the slot of no PIN
 abbrev pub pin_in : List ℕ → PinSlot
 pin_in bytes = let pin = pin_of bytes in if pin.key == 0 then absent_pin else pin
 
+-- the row in these bytes and in those kept apart; where it is not used, the unused one
 abbrev pub row_in : List ℕ → List ℕ → Row
 row_in bytes more = let row = row_of bytes more in if row.used then row else unused_row
 
--- an entry by its number
+-- the entry of the file of this number
 abbrev pub node_at : List ℕ → ℕ → Node
 node_at content number = node_in (node_bytes content number)
 
+-- the PIN slot of this number, from 0 to 2
 abbrev pub pin_at : List ℕ → ℕ → PinSlot
 pin_at content slot = pin_in (pin_bytes content slot)
 
@@ -101,6 +107,7 @@ pin_at content slot = pin_in (pin_bytes content slot)
 abbrev pub row_when : Bool → ℕ → List ℕ → List ℕ → Row
 row_when wide shelf bytes more = if nat_lt shelf (row_count wide) then row_in bytes (if wide then more else []) else unused_row
 
+-- the row of this shelf
 abbrev pub row_at : List ℕ → ℕ → Row
 row_at content shelf = row_when (is_wide content) shelf (row_bytes content shelf) (kept_bytes content shelf)
 

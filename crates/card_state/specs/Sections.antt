@@ -38,9 +38,11 @@ abbrev pub file_at : List File → File → List FileId → Option File
 file_at files from [] = Some from
 file_at files from (id ∷ path) = if from.kind == df_kind then option_and_then (λ child. file_at files child path) (child_of files from.number id) else None
 
+-- all identifiers of a path but the last
 abbrev pub front_of : List FileId → List FileId
 front_of path = take (length path - 1) path
 
+-- the last identifier of a path, if it has one
 abbrev pub last_of : List FileId → Option ℕ
 last_of path = option_map (λ id. id.0) (find (λ _. true) (drop (length path - 1) path))
 
@@ -56,21 +58,25 @@ is_new_path files path =
 
 -- ---- files
 
+-- how many bytes an EF of this structure has: in records, their length times their number
 abbrev pub size_of : Shape → ℕ
 size_of (Transparent size) = size
 size_of (Linear width count) = width * count
 size_of (Cyclic width count) = width * count
 
+-- the file descriptor byte of an EF of this structure (ETSI TS 102 221, 11.1.1.4.3)
 abbrev pub kind_of : Shape → ℕ
 kind_of (Transparent size) = transparent_kind
 kind_of (Linear width count) = linear_kind
 kind_of (Cyclic width count) = cyclic_kind
 
+-- what an EF of this structure holds when it is new: bytes FF
 abbrev pub blank_contents : Shape → Contents
 blank_contents (Transparent size) = Bytes (replicate size 0xFF)
 blank_contents (Linear width count) = Records (replicate count (replicate width 0xFF))
 blank_contents (Cyclic width count) = Records (replicate count (replicate width 0xFF))
 
+-- a structure that a new EF may have: 1 to 32,767 bytes, or 1 to 254 records of at least one byte
 abbrev pub is_shape : Shape → Bool
 is_shape (Transparent size) = nat_le 1 size && nat_le size SIZE_LIMIT
 is_shape (Linear width count) = nat_le 1 width && nat_le 1 count && nat_le count RECORD_LIMIT
@@ -81,6 +87,7 @@ abbrev pub is_new_short : List File → ℕ → Option ℕ → Bool
 is_new_short files df None = true
 is_new_short files df (Some short) = nat_le 1 short && nat_le short 30 && not (list_any (λ file. is_ef_kind file.kind && file.parent == df && file.short == short) files)
 
+-- a rule names a record from 1 to 254; a file may have none
 abbrev pub is_rule : Option Rule → Bool
 is_rule None = true
 is_rule (Some rule) = nat_le 1 rule.number && nat_le rule.number RECORD_LIMIT
@@ -93,9 +100,11 @@ byte_total_of files = sum_by (λ file. file.size) files
 abbrev pub fits_wide : ℕ → Bool
 fits_wide total = nat_le total (data_end true - data_place)
 
+-- a new DF in this one: like the MF, but with the next number, with this one as its parent, and with its own identifier
 abbrev pub new_df : Persistent → File → ℕ → File
 new_df state df id = record mf { number = length state.files; parent = df.number; id = id }
 
+-- a new EF in this DF: activated, blank, with the next number, and its bytes behind those of all files so far
 abbrev pub new_ef : Persistent → File → ℕ → Shape → Option ℕ → Option Rule → File
 new_ef state df id shape short rule = record {
   number = length state.files;
@@ -114,6 +123,7 @@ new_ef state df id shape short rule = record {
 abbrev pub with_file : Persistent → File → Persistent
 with_file state file = record state { files = state.files ++ file ∷ []; is_wide = fits_wide (byte_total_of state.files + file.size) }
 
+-- the file with this number has these contents, and any other stays as it is
 abbrev pub refilled : ℕ → Contents → File → File
 refilled number contents file = if file.number == number then record file { contents = contents } else file
 
@@ -130,6 +140,7 @@ pub record Installation : Type 0 where
   pub text : List ℕ
   pub kept : List ℕ
 
+-- the code of an event that an applet may be registered for
 abbrev pub is_code : ℕ → Bool
 is_code code = list_any (λ event. event.0 == code) event_codes
 
@@ -138,6 +149,7 @@ abbrev pub are_different : List ℕ → Bool
 are_different [] = true
 are_different (code ∷ codes) = not (list_any (λ other. other == code) codes) && are_different codes
 
+-- known codes, no code twice, a text of at most 10 bytes, and at most 64 bytes to keep
 abbrev pub is_installation : Installation → Bool
 is_installation found = list_all is_code found.codes && are_different found.codes && nat_le (length found.text) TEXT_LIMIT && nat_le (length found.kept) KEPT_LIMIT
 
@@ -146,6 +158,7 @@ abbrev pub counted : List ℕ → Option (List ℕ × List ℕ)
 counted [] = None
 counted (count ∷ bytes) = if nat_le count (length bytes) then Some (take count bytes, drop count bytes) else None
 
+-- what the data of an installation say; None where a length is greater than what follows it, or where they are no installation
 abbrev pub installation_of : List ℕ → Option Installation
 installation_of content =
     option_and_then (λ codes. option_and_then (λ text.
@@ -156,9 +169,11 @@ installation_of content =
 abbrev pub needs_wide : Registration → Bool
 needs_wide row = nat_lt (LOWER_ROW_COUNT - 1) row.shelf || nat_lt KEPT_WIDTH (length row.kept)
 
+-- the row has a text, which makes it an item of the menu
 abbrev pub has_text : Registration → Bool
 has_text row = not (length row.text == 0)
 
+-- the row is registered for call control
 abbrev pub is_call_control : Registration → Bool
 is_call_control row = list_any (λ code. code == call_control_code) row.codes
 
@@ -172,6 +187,7 @@ is_new_row rows row =
     nat_le row.shelf (ROW_COUNT - 1) && nat_le 1 row.kind && nat_le row.kind LAST_KIND && nat_le 1 row.priority && not (list_any (λ other. other.shelf == row.shelf) rows)
     && not (is_call_control row && list_any is_call_control rows) && not (has_text row && nat_le MENU_LIMIT (count_by has_text rows))
 
+-- the row of an applet that is installed: with the next sequence number, and its codes in the order of the table
 abbrev pub new_row : Persistent → ℕ → ℕ → ℕ → Installation → Registration
 new_row state shelf priority kind installed = record {
   shelf = shelf;
@@ -194,9 +210,11 @@ with_row rows row = filter (λ other. nat_lt other.shelf row.shelf) rows ++ row 
 abbrev pub if_good : Bool → Bool → Persistent → Result Persistent SectionFault
 if_good good room state = if good then (if room then Ok state else Err NoRoom) else Err Bad
 
+-- the rows fit beside files of so many bytes: these leave room for the rows of a wide card, or no row needs one
 abbrev pub rows_fit : List Registration → ℕ → Bool
 rows_fit rows total = fits_wide total || not (list_any needs_wide rows)
 
+-- at most 128 files, with at most 61,568 bytes, and with bytes that leave room for the rows
 abbrev pub files_fit : Persistent → Bool
 files_fit state = nat_le (length state.files) NODE_COUNT && nat_le (byte_total_of state.files) (data_end false - data_place) && rows_fit state.rows (byte_total_of state.files)
 
@@ -205,15 +223,18 @@ abbrev pub if_df : Option File → (File → Result Persistent SectionFault) →
 if_df None known = Err Bad
 if_df (Some df) known = known df
 
+-- the identifier of the new file at this path, which is the last of the path
 abbrev pub id_for : List FileId → ℕ
 id_for path = unwrap_or (last_of path) 0
 
+-- the state after `df PATH`: the path has to be new, and one file more has to fit
 abbrev pub df_added : Persistent → List FileId → Result Persistent SectionFault
 df_added state path =
     if_df (df_for state.files path) (λ df.
     let added = with_file state (new_df state df (id_for path)) in
     if_good (is_new_path state.files path) (files_fit added) added)
 
+-- the state after `ef PATH ..`: the path has to be new, the EF has to be one that may be, and it has to fit with its bytes
 abbrev pub ef_added : Persistent → List FileId → Shape → Option ℕ → Option Rule → Result Persistent SectionFault
 ef_added state path shape short rule =
     if_df (df_for state.files path) (λ df.
@@ -236,13 +257,16 @@ record_filled state number index bytes (Records old) =
 record_filled state number index bytes Files = Err Bad
 record_filled state number index bytes (Bytes old) = Err Bad
 
+-- a line about a file at a path: the file has to be there
 abbrev pub if_file : Option File → (File → Result Persistent SectionFault) → Result Persistent SectionFault
 if_file None known = Err Bad
 if_file (Some file) known = known file
 
+-- the key of one of the three PINs: 01, 81 or 0A (ETSI TS 102 221, 9.5.1)
 abbrev pub is_key : ℕ → Bool
 is_key key = key == PIN_1 || key == PIN_2 || key == ADM_1
 
+-- the PINs with this one, in the order 01, 81, 0A
 abbrev pub with_pin : List Pin → Pin → List Pin
 with_pin pins pin = filter (λ other. nat_lt (slot_of_key other.key) (slot_of_key pin.key)) pins ++ pin ∷ [] ++ filter (λ other. nat_lt (slot_of_key pin.key) (slot_of_key other.key)) pins
 
@@ -252,11 +276,13 @@ pin_added state key value enabled unblock =
     let pin : Pin = record { key = key; is_enabled = enabled; tries = TRIES; unblock_tries = UNBLOCK_TRIES; value = value; unblock = unblock } in
     if_good (is_key key && not (list_any (λ other. other.key == key) state.pins) && (enabled || not (key == ADM_1))) true (record state { pins = with_pin state.pins pin })
 
+-- a row needs an applet on its shelf, which has a kind, and data that are an installation
 abbrev pub if_installed : Option ℕ → Option Installation → (ℕ → Installation → Result Persistent SectionFault) → Result Persistent SectionFault
 if_installed None found known = Err Bad
 if_installed (Some kind) None known = Err Bad
 if_installed (Some kind) (Some found) known = known kind found
 
+-- the state after `row SHELF ..`: the row has to be one that may stand beside the others, and to fit; the next sequence number is one more then
 abbrev pub row_added : Persistent → ℕ → ℕ → List ℕ → Option ℕ → Result Persistent SectionFault
 row_added state shelf priority content kind =
     if_installed kind (installation_of content) (λ kind' installed.

@@ -7,9 +7,11 @@ use Rattle.card_state.specs.Places.{data_place, data_end, row_count, kept_limit}
 use Rattle.card_state.specs.Persistent.{Contents, Files, Bytes, Records, File, Pin, Registration, Persistent}
 use Rattle.card_state.specs.AppletKinds.{IsAppletKind}
 
+-- a DF, by its kind
 abbrev pub IsDf : File → Type 0
 IsDf file = file.kind ≡ df_kind
 
+-- an EF, by its kind
 abbrev pub IsEf : File → Type 0
 IsEf file = IsTrue (is_ef_kind file.kind)
 
@@ -40,6 +42,8 @@ pub record IsInTree (files : List File) (file : File) : Type 0 where
   pub of_it : parent.number ≡ file.parent
   pub above : file.parent < file.number
 
+-- an EF has a short file identifier of at most 30, or 0 for none, is activated or deactivated, and has at least one byte, all among those of the
+-- files
 pub record IsSoundEf (wide : Bool) (file : File) : Type 0 where
   pub short : file.short ≤ 30
   pub life : (file.life ≡ deactivated) ⊎ (file.life ≡ activated)
@@ -55,6 +59,8 @@ pub record IsSoundDf (file : File) : Type 0 where
   pub place : file.place ≡ 0
   pub size : file.size ≡ 0
 
+-- a file is a DF or an EF, the MF or in the tree below it, has a number below 128, holds what its kind and size say, and has what else its kind asks
+-- for
 pub record IsSoundFile (wide : Bool) (files : List File) (file : File) : Type 0 where
   pub kind : IsDf file ⊎ IsEf file
   pub tree : (file ≡ mf) ⊎ IsInTree files file
@@ -74,6 +80,7 @@ pub record AreDistinct (a b : File) : Type 0 where
   pub short : IsEf a → IsEf b → a.parent ≡ b.parent → (a.short ≡ 0) ⊎ (a.short ≢ b.short)
   pub bytes : IsEf a → IsEf b → AreApart a b
 
+-- a PIN has one of the three keys, at most 3 tries, and at most 10 tries for its UNBLOCK PIN
 pub record IsSoundPin (pin : Pin) : Type 0 where
   pub key : Contains (PIN_1 ∷ PIN_2 ∷ ADM_1 ∷ []) pin.key
   pub tries : pin.tries ≤ TRIES
@@ -88,6 +95,8 @@ pub record AreEventCodes (codes : List ℕ) : Type 0 where
   pub known : All (Contains known_codes) codes
   pub ascending : AllPairs (λ a b. a < b) codes
 
+-- a row stands on a shelf that the card has, with a known kind, a priority of at least 1, a sequence number that was given out, codes of events, and
+-- a text and kept bytes that are short enough
 pub record IsSoundRow (wide : Bool) (next : ℕ) (row : Registration) : Type 0 where
   pub shelf : row.shelf < row_count wide
   pub kind : IsAppletKind row.kind
@@ -103,6 +112,8 @@ pub record AreDifferent (a b : Registration) : Type 0 where
   pub sequence : a.sequence ≢ b.sequence
   pub call_control : Contains a.codes call_control_code → Contains b.codes call_control_code → ⊥
 
+-- Each file, PIN and row is sound and differs from the others as it has to, the MF is there, the PINs stand in the order 01, 81, 0A, and at most 16
+-- rows have a text.
 pub record IsSound (state : Persistent) : Type 0 where
   pub files : All (IsSoundFile state.is_wide state.files) state.files
   pub mf_there : Contains state.files mf

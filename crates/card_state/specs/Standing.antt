@@ -18,7 +18,7 @@ unless_failed None state = Ok state
 unless_failed (Some at) state = Err at
 
 -- In a store with this mark the content stands for a persistent state, or it is no card's, and a first check fails.
--- Bytes 64 to 831, those of no file, and those of an entry beyond what it uses don't count.
+-- Bytes 8 to 831 and 892 to 895, those of no file, and those of an entry beyond what it uses don't count.
 unfoldable pub stands_for : ℕ → List ℕ → Result Persistent ℕ
 stands_for store_mark content = unless_failed (first_failed (checks store_mark content)) (state_in content)
 

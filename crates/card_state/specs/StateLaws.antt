@@ -13,6 +13,7 @@ use Rattle.card_state.specs.Used.{HasNode, HasPin, HasRow, HasOwnKeys, file_if, 
 
 -- ---- what a state has under a number, a key, on a shelf
 
+-- the file with this number, if there is one
 abbrev pub file_with_number : Persistent → ℕ → Option File
 file_with_number state number = find (λ file. file.number == number) state.files
 

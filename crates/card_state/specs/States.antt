@@ -12,6 +12,7 @@ use Rattle.card_state.specs.Persistent.{Rule, Contents, Files, Bytes, Records, F
 abbrev pub file_bytes : List ℕ → Node → List ℕ
 file_bytes content node = slice_range content node.place (node.place + node.size)
 
+-- how many records a file has: its size divided by the length of a record
 abbrev pub record_count : Node → ℕ
 record_count node = node.size / node.length
 
@@ -30,15 +31,19 @@ contents_in bytes node =
     else if node.kind == transparent_kind then Bytes bytes
     else Records (from_head node.head (records_of node.length (record_count node) bytes))
 
+-- what a file holds, read from its bytes in the memory
 unfoldable pub contents_of : List ℕ → Node → Contents
 contents_of content node = contents_in (file_bytes content node) node
 
+-- the rule of a file's entry; record 0 stands for none
 abbrev pub rule_of : Node → Option Rule
 rule_of node = if node.rule == 0 then None else Some (record { arr = node.arr.0; number = node.rule })
 
+-- the DF of an entry, of which only parent, kind and identifier count
 abbrev pub df_file : ℕ → Node → File
 df_file number node = record { number = number; parent = node.parent; kind = node.kind; id = node.id.0; short = 0; life = activated; rule = None; place = 0; size = 0; contents = Files }
 
+-- the EF of an entry, with what it holds
 abbrev pub ef_file : List ℕ → ℕ → Node → File
 ef_file content number node = record {
   number = number;
@@ -53,9 +58,11 @@ ef_file content number node = record {
   contents = contents_of content node;
 }
 
+-- the file of an entry, a DF or an EF
 abbrev pub file_of : List ℕ → ℕ → Node → File
 file_of content number node = if node.kind == df_kind then df_file number node else ef_file content number node
 
+-- the PIN of a slot
 abbrev pub pin_state : PinSlot → Pin
 pin_state pin = record {
   key = pin.key;
@@ -66,6 +73,7 @@ pin_state pin = record {
   unblock = pin.unblock.0;
 }
 
+-- the registered applet of a row, with the codes of the events whose bits are set
 abbrev pub registration_of : ℕ → Row → Registration
 registration_of shelf row = record {
   shelf = shelf;
@@ -81,9 +89,11 @@ registration_of shelf row = record {
 abbrev pub used_nodes : List Node → List (ℕ × Node)
 used_nodes nodes = filter (λ entry. entry.1.used) (enumerate_from 0 nodes)
 
+-- the rows that are used, each with its shelf
 abbrev pub used_rows : List Row → List (ℕ × Row)
 used_rows rows = filter (λ entry. entry.1.used) (enumerate_from 0 rows)
 
+-- the slots that have a key
 abbrev pub present_pins : List PinSlot → List PinSlot
 present_pins pins = filter (λ pin. not (pin.key == 0)) pins
 
@@ -91,13 +101,15 @@ present_pins pins = filter (λ pin. not (pin.key == 0)) pins
 unfoldable pub files_of : Loaded → List ℕ → List File
 files_of loaded content = map (λ entry. file_of content entry.0 entry.1) (used_nodes loaded.nodes)
 
--- its PINs in the order of their slots, and its rows by ascending shelves, which the bytes of the files don't bear on
+-- the PINs of a table in the order of their slots; the bytes of the files don't bear on them, nor on the rows
 unfoldable pub pins_of : Loaded → List Pin
 pins_of loaded = map pin_state (present_pins loaded.pins)
 
+-- the rows of a table by ascending shelves
 unfoldable pub rows_of : Loaded → List Registration
 rows_of loaded = map (λ entry. registration_of entry.0 entry.1) (used_rows loaded.rows)
 
+-- the state of a table, over the bytes of the files
 unfoldable pub state_of : Loaded → List ℕ → Persistent
 state_of loaded content = record {
   is_wide = loaded.wide;

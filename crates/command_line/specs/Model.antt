@@ -10,7 +10,7 @@ use Rattle.command_line.specs.declared.requests.Request.{Request}
 use Rattle.command_line.specs.declared.requests.Transport.{Transport}
 use Rattle.command_line.specs.declared.requests.Transport.TheVariants.{Direct}
 
--- the word of a command that has no other, the one that begins those of `load`, and the one of `bip`
+-- the word of a command that has no other word before its options
 abbrev pub IsNamed : List ℕ → Mode → Type 0
 IsNamed word Play = word ≡ codes "play"
 IsNamed word Open = word ≡ codes "open"
@@ -18,9 +18,11 @@ IsNamed word (Phone transport) = word ≡ codes "phone"
 IsNamed word (Load start count) = ⊥
 IsNamed word Bip = ⊥
 
+-- the word that begins those of `load`
 abbrev pub IsLoadWord : List ℕ → Type 0
 IsLoadWord word = word ≡ codes "load"
 
+-- the word of `bip`
 abbrev pub IsBipWord : List ℕ → Type 0
 IsBipWord word = word ≡ codes "bip"
 
@@ -78,6 +80,7 @@ pub record AreChosen (before : ℕ) (words : List (List ℕ)) (transport : Trans
   pub transport_is : options.transport ≡ transport
   pub devices_are : devices ≡ devices_of options
 
+-- the words are a command and its options, and ask for a run in this mode, over these devices
 pub record IsRequest (words : List (List ℕ)) (asked : Request) : Type 0 where
   pub options : List (List ℕ)
   pub begins : IsCommand words options asked.mode

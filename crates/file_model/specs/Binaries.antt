@@ -27,6 +27,7 @@ p1_has_short p1 = nat_le 0x80 p1
 abbrev pub has_binary_parameters : Apdu → Bool
 has_binary_parameters apdu = not (p1_has_short apdu.p1) || nat_le 0x81 apdu.p1 && nat_le apdu.p1 0x9E
 
+-- the short file identifier in P1, where b8 says that there is one
 abbrev pub short_in_p1 : Apdu → Option ℕ
 short_in_p1 apdu = if p1_has_short apdu.p1 then Some (apdu.p1 - 0x80) else None
 
@@ -46,9 +47,11 @@ binary_file has_length files selection apdu =
     refused_if (is_deactivated file) CONDITIONS_NOT_SATISFIED (
     Ok file)))))
 
+-- the file of READ BINARY, which has a Le and no data, or what refuses it
 abbrev pub binary_to_read : List Descriptor → Selection → Apdu → Result Descriptor StatusWord
 binary_to_read files selection apdu = binary_file (has_le_alone apdu) files selection apdu
 
+-- the file of UPDATE BINARY, which has data, or what refuses it
 abbrev pub binary_to_update : List Descriptor → Selection → Apdu → Result Descriptor StatusWord
 binary_to_update files selection apdu = binary_file (has_data apdu) files selection apdu
 
@@ -72,11 +75,13 @@ read_from state seen selection apdu file =
     refused_if (nat_le file.size (offset_of apdu)) WRONG_OFFSET (
     Ok (reading state selection apdu file (unwrap_or apdu.expected 0))))
 
+-- READ BINARY: what it comes to, or its refusal
 unfoldable pub binary_read : Persistent → Verified → Selection → Apdu → Result FileOutcome StatusWord
 binary_read state seen selection apdu = and_given (binary_to_read (descriptors_in state) selection apdu) (read_from state seen selection apdu)
 
 -- ---- UPDATE BINARY
 
+-- the data stand in the file from the offset on, and the file is the current EF
 unfoldable pub updating : Persistent → Selection → Apdu → Descriptor → FileOutcome
 updating state selection apdu file = record {
   body = [];
@@ -85,11 +90,13 @@ updating state selection apdu file = record {
   passed = with_bytes file.number (offset_of apdu) apdu.body state ∷ [];
 }
 
+-- from the test of access on: the data have to end where the file does or before
 unfoldable pub update_in : Persistent → Verified → Selection → Apdu → Descriptor → Result FileOutcome StatusWord
 update_in state seen selection apdu file =
     needs (may state UpdateBinary seen file) SECURITY_NOT_SATISFIED (
     refused_if (nat_lt file.size (offset_of apdu + length apdu.body)) WRONG_OFFSET (
     Ok (updating state selection apdu file)))
 
+-- UPDATE BINARY: what it comes to, or its refusal
 unfoldable pub binary_updated : Persistent → Verified → Selection → Apdu → Result FileOutcome StatusWord
 binary_updated state seen selection apdu = and_given (binary_to_update (descriptors_in state) selection apdu) (update_in state seen selection apdu)

@@ -13,6 +13,7 @@ use Rattle.file_model.specs.declared.selections.TheConstants.Selection.{AT_START
 abbrev pub selected_on : List (Option Selection) → ℕ → Option Selection
 selected_on channels channel = slice_index_or channels channel None
 
+-- the channel is open
 abbrev pub is_open : List (Option Selection) → ℕ → Bool
 is_open channels channel = is_some (selected_on channels channel)
 
@@ -43,6 +44,7 @@ channel_opened channels selection apdu =
     given (closed_channel channels) NO_FREE_CHANNEL (λ channel.
     Ok (record { body = channel ∷ []; channels = slice_set channels channel (Some (first_selection (channel_of apdu.class) selection)) })))
 
+-- the channel in P2 is closed: the command has no data (6700), and the channel has to be open (6985)
 abbrev pub channel_closed : List (Option Selection) → Apdu → Result ChannelOutcome StatusWord
 channel_closed channels apdu =
     needs (has_no_data apdu) WRONG_LENGTH (

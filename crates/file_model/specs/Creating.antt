@@ -25,19 +25,22 @@ use Rattle.file_model.specs.Templates.{asked_in}
 
 -- ---- whether it is there already
 
--- the DF has a file with this identifier, or an EF with this short file identifier
+-- the DF has a file with this identifier
 abbrev pub has_id : List Descriptor → ℕ → ℕ → Bool
 has_id files df id = is_some (file_found files (Child df (record { 0 = id })))
 
+-- the DF has an EF with this short file identifier, where 0 is none
 abbrev pub has_short : List Descriptor → ℕ → ℕ → Bool
 has_short files df short = not (short == 0) && is_some (file_found files (Short df short))
 
+-- the DF has a file with the identifier of the new one, or an EF with its short file identifier
 abbrev pub is_there : List Descriptor → ℕ → NewFile → Bool
 is_there files df (Df id) = has_id files df id.0
 is_there files df (Ef id shape short rule) = has_id files df id.0 || has_short files df short
 
 -- ---- the file that is made
 
+-- the rule that the command names, as a file has it
 abbrev pub rule_in : RuleReference → Rule
 rule_in rule = record { arr = rule.arr.0; number = rule.number }
 
@@ -79,6 +82,8 @@ creating state channels channel file = record {
 abbrev pub created_if_room : Persistent → List (Option Selection) → ℕ → NewFile → Result TreeOutcome StatusWord
 created_if_room state channels channel asked = given (made_in state (df_on channels channel) asked) NO_ROOM (λ file. Ok (creating state channels channel file))
 
+-- CREATE FILE: what it comes to; it is refused where P1 and P2 are not 00 (6A86), without data (6700), where the condition of ADM1 is not satisfied
+-- (6982), where the data are no template (6A80), and where the current DF has the file already (6A89) or the card no room (6A84)
 unfoldable pub created : Persistent → Verified → List (Option Selection) → ℕ → Apdu → Result TreeOutcome StatusWord
 created state seen channels channel apdu =
     needs (has_no_parameters apdu) WRONG_PARAMETERS (

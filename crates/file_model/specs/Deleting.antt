@@ -25,6 +25,8 @@ deleting state channels file = record {
   passed = with_file_at state file.number None ∷ [];
 }
 
+-- DELETE FILE: what it comes to; it is refused where P1 and P2 are not 00 (6A86), where the data are not two bytes (6700) or name no file of the
+-- current DF (6A82), where the condition of ADM1 is not satisfied (6982), and where the file is a DF in use (6985)
 unfoldable pub deleted : Persistent → Verified → List (Option Selection) → ℕ → Apdu → Result TreeOutcome StatusWord
 deleted state seen channels channel apdu =
     needs (has_no_parameters apdu) WRONG_PARAMETERS (

@@ -31,13 +31,16 @@ pin_object pins = object 0xC6 (object 0x90 (enabled_bits 0x80 pins ∷ []) ++ fl
 abbrev pub short_object : Descriptor → List ℕ
 short_object file = object 0x88 (if file.short == 0 then [] else file.short * 8 ∷ [])
 
--- what a DF tells, and what an EF
+-- what a DF tells besides: the PIN status
 abbrev pub df_objects : List Pin → List ℕ
 df_objects pins = pin_object pins
 
+-- what an EF tells besides: its size (11.1.1.4.1) and its short file identifier
 abbrev pub ef_objects : Descriptor → List ℕ
 ef_objects file = object 0x80 (to_be_bytes w16 file.size) ++ short_object file
 
+-- the FCP template: the file descriptor, the identifier, the life cycle status (11.1.1.4.9), the reference to the rule, and what a DF or an EF tells
+-- besides
 unfoldable pub fcp : List Pin → Descriptor → List ℕ
 fcp pins file =
     object 0x62 (

@@ -52,16 +52,19 @@ descriptors_of loaded = map (λ entry. descriptor_of entry.0 entry.1) (used_node
 
 -- ---- of a persistent state
 
+-- the length of a record, which is that of the first; 0 of a file without records
 abbrev pub record_width : Contents → ℕ
 record_width Files = 0
 record_width (Bytes bytes) = 0
 record_width (Records records) = length (slice_index_or records 0 [])
 
+-- how many records a file has; 0 of a DF and of a transparent EF
 abbrev pub record_count : Contents → ℕ
 record_count Files = 0
 record_count (Bytes bytes) = 0
 record_count (Records records) = length records
 
+-- the rule of a file as a reference: its EF_ARR and its record
 abbrev pub reference_in : Rule → RuleReference
 reference_in rule = record { arr = record { 0 = rule.arr }; number = rule.number }
 
@@ -80,14 +83,17 @@ descriptor_in file = record {
   count = record_count file.contents;
 }
 
+-- what is known of each file, in their order
 unfoldable pub descriptors_in : Persistent → List Descriptor
 descriptors_in state = map descriptor_in state.files
 
 -- ---- how a file is found
 
+-- a DF
 abbrev pub is_df : Descriptor → Bool
 is_df file = file.kind == df_kind
 
+-- an EF
 abbrev pub is_ef : Descriptor → Bool
 is_ef file = is_ef_kind file.kind
 
@@ -95,6 +101,8 @@ is_ef file = is_ef_kind file.kind
 abbrev pub lies_in : ℕ → Descriptor → Bool
 lies_in df file = file.parent == df && not (file.number == 0)
 
+-- the file is the one that is looked for: by its number, by number and identifier, by identifier in a DF (as any file, a DF or an EF), or by short
+-- file identifier in a DF
 abbrev pub is_wanted : Wanted → Descriptor → Bool
 is_wanted (Number number) file = file.number == number
 is_wanted (Named number id) file = file.number == number && file.id.0 == id.0

@@ -42,8 +42,10 @@ life_in op life state seen selection file =
 unfoldable pub life_changed : Op → ℕ → Persistent → Verified → Selection → Apdu → Result FileOutcome StatusWord
 life_changed op life state seen selection apdu = and_given (life_file (descriptors_in state) selection apdu) (life_in op life state seen selection)
 
+-- DEACTIVATE FILE: what it comes to, or its refusal
 abbrev pub file_deactivated : Persistent → Verified → Selection → Apdu → Result FileOutcome StatusWord
 file_deactivated = life_changed Deactivate deactivated
 
+-- ACTIVATE FILE: what it comes to, or its refusal
 abbrev pub file_activated : Persistent → Verified → Selection → Apdu → Result FileOutcome StatusWord
 file_activated = life_changed Activate activated

@@ -48,6 +48,7 @@ unfoldable pub addressed : List Descriptor → Selection → Option ℕ → Resu
 addressed files selection None = given (current_ef files selection) NO_CURRENT_FILE (λ file. Ok file)
 addressed files selection (Some short) = given (file_found files (Short selection.df short)) FILE_NOT_FOUND (λ file. Ok file)
 
+-- the life cycle status is 04 (ETSI TS 102 221, 11.1.1.4.9)
 abbrev pub is_deactivated : Descriptor → Bool
 is_deactivated file = file.life == deactivated
 

@@ -61,20 +61,23 @@ told verified tries = record { status = tries_left tries; verified = verified; p
 
 -- ---- the tests that all five have
 
+-- P1 is 00; P2 is the key
 abbrev pub has_pin_parameters : Apdu → Bool
 has_pin_parameters apdu = apdu.p1 == 0x00
 
--- the first eight bytes of data, and those behind them
+-- the value that is presented: the first eight bytes of data
 abbrev pub value_presented : Apdu → List ℕ
 value_presented apdu = take 8 apdu.body
 
+-- the new value of the PIN: the data behind the first eight bytes
 abbrev pub new_value : Apdu → List ℕ
 new_value apdu = drop 8 apdu.body
 
--- a key that has a PIN; the administrator's cannot be disabled, enabled or unblocked
+-- the user's keys 01 and 81, whose PINs alone can be disabled, enabled and unblocked
 abbrev pub is_users_key : ℕ → Bool
 is_users_key key = key == PIN_1 || key == PIN_2
 
+-- the keys that have a PIN: 01, 81 and the administrator's, 0A
 abbrev pub is_pin_key : ℕ → Bool
 is_pin_key key = is_users_key key || key == ADM_1
 
@@ -86,11 +89,14 @@ pin_addressed pins apdu is_length is_key next =
     needs is_key REFERENCE_NOT_FOUND (
     given (pin_found pins apdu.p2) REFERENCE_NOT_FOUND next)))
 
+-- no tries are left
 abbrev pub is_blocked : Pin → Bool
 is_blocked pin = pin.tries == 0
 
 -- ---- the commands
 
+-- VERIFY PIN: what it comes to. Eight bytes are presented, and a right value sets the key's mark; without data it asks how many tries are left. It is
+-- refused for a blocked PIN (6983), and with data for a disabled one (6984).
 unfoldable pub pin_verified : List Pin → Verified → Apdu → Result PinOutcome StatusWord
 pin_verified pins verified apdu =
     pin_addressed pins apdu (has_no_data apdu || length apdu.body == 8) (is_pin_key apdu.p2) (λ pin.
@@ -99,6 +105,8 @@ pin_verified pins verified apdu =
     else needs pin.is_enabled PIN_DISABLED (
     Ok (pin_presented pins verified pin (value_presented apdu) pin (marked verified pin.key true)))))
 
+-- CHANGE PIN: what it comes to. The old value is presented; where it is right the PIN has the new one, and the key's mark is set. It is refused for a
+-- blocked PIN (6983) and a disabled one (6984).
 unfoldable pub pin_changed : List Pin → Verified → Apdu → Result PinOutcome StatusWord
 pin_changed pins verified apdu =
     pin_addressed pins apdu (length apdu.body == 16) (is_pin_key apdu.p2) (λ pin.
@@ -106,7 +114,8 @@ pin_changed pins verified apdu =
     needs pin.is_enabled PIN_DISABLED (
     Ok (pin_presented pins verified pin (value_presented apdu) (record pin { value = new_value apdu }) (marked verified pin.key true)))))
 
--- the mark stays
+-- DISABLE PIN: what it comes to. A right value disables the PIN, and the key's mark stays. It is refused for a blocked PIN (6983) and a disabled one
+-- (6984).
 unfoldable pub pin_disabled : List Pin → Verified → Apdu → Result PinOutcome StatusWord
 pin_disabled pins verified apdu =
     pin_addressed pins apdu (length apdu.body == 8) (is_users_key apdu.p2) (λ pin.
@@ -114,6 +123,8 @@ pin_disabled pins verified apdu =
     needs pin.is_enabled PIN_DISABLED (
     Ok (pin_presented pins verified pin (value_presented apdu) (record pin { is_enabled = false }) verified))))
 
+-- ENABLE PIN: what it comes to. A right value enables the PIN and sets the key's mark. It is refused for a blocked PIN (6983) and an enabled one
+-- (6985).
 unfoldable pub pin_enabled : List Pin → Verified → Apdu → Result PinOutcome StatusWord
 pin_enabled pins verified apdu =
     pin_addressed pins apdu (length apdu.body == 8) (is_users_key apdu.p2) (λ pin.
@@ -121,6 +132,8 @@ pin_enabled pins verified apdu =
     refused_if pin.is_enabled CONDITIONS_NOT_SATISFIED (
     Ok (pin_presented pins verified pin (value_presented apdu) (record pin { is_enabled = true }) (marked verified pin.key true)))))
 
+-- UNBLOCK PIN: what it comes to. The UNBLOCK PIN is presented; where it is right the PIN has the new value and is enabled, and the key's mark is set.
+-- Without data it asks how many tries the UNBLOCK PIN has left. It is refused where that has none (6983).
 unfoldable pub pin_unblocked : List Pin → Verified → Apdu → Result PinOutcome StatusWord
 pin_unblocked pins verified apdu =
     pin_addressed pins apdu (has_no_data apdu || length apdu.body == 16) (is_users_key apdu.p2) (λ pin.

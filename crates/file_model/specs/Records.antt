@@ -28,12 +28,15 @@ short_bits apdu = apdu.p2 / 8
 abbrev pub mode_bits : Apdu → ℕ
 mode_bits apdu = apdu.p2 % 8
 
+-- b3 to b1 are 010: the next record
 abbrev pub next_mode : ℕ
 next_mode = 2
 
+-- b3 to b1 are 011: the previous record
 abbrev pub previous_mode : ℕ
 previous_mode = 3
 
+-- b3 to b1 are 100: the record that P1 names, or the current one where P1 is 00
 abbrev pub absolute_mode : ℕ
 absolute_mode = 4
 
@@ -43,19 +46,24 @@ has_record_parameters apdu =
     not (short_bits apdu == 31)
     && (mode_bits apdu == absolute_mode || (mode_bits apdu == next_mode || mode_bits apdu == previous_mode) && apdu.p1 == 0)
 
+-- the short file identifier in P2, if there is one
 abbrev pub short_in_p2 : Apdu → Option ℕ
 short_in_p2 apdu = if short_bits apdu == 0 then None else Some (short_bits apdu)
 
 -- ---- which record
 
+-- a cyclic EF
 abbrev pub is_cyclic : Descriptor → Bool
 is_cyclic file = file.kind == cyclic_kind
 
--- behind the last record of a cyclic file comes the first, before the first the last; a linear one ends there
+-- the record behind this one; without a record pointer it is the first. Behind the last of a cyclic file comes its first; behind that of a linear
+-- fixed one there is none.
 abbrev pub next_record : Descriptor → Option ℕ → Option ℕ
 next_record file None = Some 1
 next_record file (Some pointer) = if nat_lt pointer file.count then Some (pointer + 1) else (if is_cyclic file then Some 1 else None)
 
+-- the record before this one; without a record pointer it is the last. Before the first of a cyclic file comes its last; before that of a linear
+-- fixed one there is none.
 abbrev pub previous_record : Descriptor → Option ℕ → Option ℕ
 previous_record file None = Some file.count
 previous_record file (Some pointer) = if nat_lt 1 pointer then Some (pointer - 1) else (if is_cyclic file then Some file.count else None)
@@ -101,6 +109,7 @@ other_length count = record { 0 = 0x6C00 + count }
 abbrev pub is_record_length : Descriptor → ℕ → Bool
 is_record_length file expected = expected == 256 || expected == file.width
 
+-- the record is answered whole, and becomes the current one unless it was named by P1
 unfoldable pub record_reading : Persistent → Selection → Apdu → Descriptor → ℕ → FileOutcome
 record_reading state selection apdu file number = record {
   body = slice_index_or (records_in state file.number) (number - 1) [];
@@ -109,6 +118,7 @@ record_reading state selection apdu file number = record {
   passed = [];
 }
 
+-- the EF of READ RECORD, which has records, or what refuses the command
 abbrev pub file_to_read : List Descriptor → Selection → Apdu → Result Descriptor StatusWord
 file_to_read files selection apdu = record_file (has_record_parameters apdu) (has_le_alone apdu) (λ file. has_records file.kind) files selection (short_in_p2 apdu)
 
@@ -119,12 +129,14 @@ number_to_read file selection apdu =
     needs (is_record_length file (unwrap_or apdu.expected 0)) (other_length file.width) (
     Ok number))
 
+-- from the test of access on: the record has to be there, and Le has to be its length
 unfoldable pub record_read_from : Persistent → Verified → Selection → Apdu → Descriptor → Result FileOutcome StatusWord
 record_read_from state seen selection apdu file =
     needs (may state ReadRecord seen file) SECURITY_NOT_SATISFIED (
     and_given (number_to_read file selection apdu) (λ number.
     Ok (record_reading state selection apdu file number)))
 
+-- READ RECORD: what it comes to, or its refusal
 unfoldable pub record_read : Persistent → Verified → Selection → Apdu → Result FileOutcome StatusWord
 record_read state seen selection apdu = and_given (file_to_read (descriptors_in state) selection apdu) (record_read_from state seen selection apdu)
 
@@ -138,6 +150,7 @@ may_be_updated file apdu = has_records file.kind && (not (is_cyclic file) || mod
 abbrev pub number_updated : Descriptor → Apdu → Option ℕ → Option ℕ
 number_updated file apdu pointer = if is_cyclic file then Some 1 else record_named file apdu pointer
 
+-- the data take the place of the record, or are the new first record of a cyclic file
 unfoldable pub record_updating : Persistent → Selection → Apdu → Descriptor → ℕ → FileOutcome
 record_updating state selection apdu file number = record {
   body = [];
@@ -146,6 +159,7 @@ record_updating state selection apdu file number = record {
   passed = (if is_cyclic file then with_newest_record file.number apdu.body state else with_record file.number (number - 1) apdu.body state) ∷ [];
 }
 
+-- the EF of UPDATE RECORD, which may be updated in this mode, or what refuses the command
 abbrev pub file_to_update : List Descriptor → Selection → Apdu → Result Descriptor StatusWord
 file_to_update files selection apdu = record_file (has_record_parameters apdu) (has_data apdu) (λ file. may_be_updated file apdu) files selection (short_in_p2 apdu)
 
@@ -156,23 +170,28 @@ number_to_update file selection apdu =
     needs (length apdu.body == file.width) WRONG_LENGTH (
     Ok number))
 
+-- from the test of access on: the record has to be there, and the data have to be as long as a record
 unfoldable pub record_update_in : Persistent → Verified → Selection → Apdu → Descriptor → Result FileOutcome StatusWord
 record_update_in state seen selection apdu file =
     needs (may state UpdateRecord seen file) SECURITY_NOT_SATISFIED (
     and_given (number_to_update file selection apdu) (λ number.
     Ok (record_updating state selection apdu file number)))
 
+-- UPDATE RECORD: what it comes to, or its refusal
 unfoldable pub record_updated : Persistent → Verified → Selection → Apdu → Result FileOutcome StatusWord
 record_updated state seen selection apdu = and_given (file_to_update (descriptors_in state) selection apdu) (record_update_in state seen selection apdu)
 
 -- ---- SEARCH RECORD
 
+-- b3 to b1 are 100: a simple search forward from the record that P1 names
 abbrev pub forward_mode : ℕ
 forward_mode = 4
 
+-- b3 to b1 are 101: a simple search backward from it
 abbrev pub backward_mode : ℕ
 backward_mode = 5
 
+-- a simple search, forward or backward; 31 is no short file identifier
 abbrev pub has_search_parameters : Apdu → Bool
 has_search_parameters apdu = not (short_bits apdu == 31) && (mode_bits apdu == forward_mode || mode_bits apdu == backward_mode)
 
@@ -195,6 +214,7 @@ abbrev pub match_pointer : Option ℕ → List ℕ → Option ℕ
 match_pointer pointer [] = pointer
 match_pointer pointer (number ∷ numbers) = Some number
 
+-- the numbers of the records that match, in the order of the search, or else a warning; the first of them is the current record then
 unfoldable pub searching : Persistent → Selection → Apdu → Descriptor → ℕ → FileOutcome
 searching state selection apdu file from =
     let numbers = numbers_matched state file apdu from in
@@ -205,6 +225,7 @@ searching state selection apdu file from =
       passed = [];
     }
 
+-- the EF of SEARCH RECORD, which has records, or what refuses the command
 abbrev pub file_to_search : List Descriptor → Selection → Apdu → Result Descriptor StatusWord
 file_to_search files selection apdu = record_file (has_search_parameters apdu) (has_data apdu) (λ file. has_records file.kind) files selection (short_in_p2 apdu)
 
@@ -215,12 +236,14 @@ number_to_search file selection apdu =
     refused_if (nat_lt file.width (length apdu.body)) WRONG_LENGTH (
     Ok from))
 
+-- from the test of access on: the record where the search begins has to be there, and the data may not be longer than a record
 unfoldable pub search_in : Persistent → Verified → Selection → Apdu → Descriptor → Result FileOutcome StatusWord
 search_in state seen selection apdu file =
     needs (may state Search seen file) SECURITY_NOT_SATISFIED (
     and_given (number_to_search file selection apdu) (λ from.
     Ok (searching state selection apdu file from)))
 
+-- SEARCH RECORD: what it comes to, or its refusal
 unfoldable pub searched : Persistent → Verified → Selection → Apdu → Result FileOutcome StatusWord
 searched state seen selection apdu = and_given (file_to_search (descriptors_in state) selection apdu) (search_in state seen selection apdu)
 
@@ -230,12 +253,15 @@ searched state seen selection apdu = and_given (file_to_search (descriptors_in s
 abbrev pub has_increase_parameters : Apdu → Bool
 has_increase_parameters apdu = (apdu.p1 == 0x00 || nat_le 0x81 apdu.p1 && nat_le apdu.p1 0x9E) && apdu.p2 == 0x00
 
+-- 1 to 127 bytes of data
 abbrev pub has_increase_length : Apdu → Bool
 has_increase_length apdu = nat_le 1 (length apdu.body) && nat_le (length apdu.body) 127
 
+-- the short file identifier in P1; P1 00 stands for the current EF
 abbrev pub short_to_increase : Apdu → Option ℕ
 short_to_increase apdu = if apdu.p1 == 0x00 then None else Some (apdu.p1 - 0x80)
 
+-- a cyclic EF with records of at most 127 bytes
 abbrev pub may_be_increased : Descriptor → Bool
 may_be_increased file = is_cyclic file && nat_le file.width 127
 
@@ -262,6 +288,7 @@ increasing state selection apdu file sum = record {
   passed = with_newest_record file.number sum state ∷ [];
 }
 
+-- the EF of INCREASE, which may be increased, or what refuses the command
 abbrev pub file_to_increase : List Descriptor → Selection → Apdu → Result Descriptor StatusWord
 file_to_increase files selection apdu = record_file (has_increase_parameters apdu) (has_increase_length apdu) may_be_increased files selection (short_to_increase apdu)
 
@@ -272,11 +299,13 @@ sum_to_write state apdu file =
     refused_if (nat_le (256 ^ file.width) (sum_of state file apdu)) OVERFLOW (
     Ok (bytes_of file.width (sum_of state file apdu))))
 
+-- from the test of access on: the data may not be longer than a record, and the sum has to fit into one
 unfoldable pub increase_in : Persistent → Verified → Selection → Apdu → Descriptor → Result FileOutcome StatusWord
 increase_in state seen selection apdu file =
     needs (may state Increase seen file) SECURITY_NOT_SATISFIED (
     and_given (sum_to_write state apdu file) (λ sum.
     Ok (increasing state selection apdu file sum)))
 
+-- INCREASE: what it comes to, or its refusal
 unfoldable pub increased : Persistent → Verified → Selection → Apdu → Result FileOutcome StatusWord
 increased state seen selection apdu = and_given (file_to_increase (descriptors_in state) selection apdu) (increase_in state seen selection apdu)

@@ -23,6 +23,7 @@ use Rattle.file_model.specs.Rooms.{room_at}
 abbrev pub size_asked : Apdu → ℕ
 size_asked apdu = number_at apdu.body 2
 
+-- a size that a transparent EF may have: 1 to 32,767 bytes
 abbrev pub may_have : ℕ → Bool
 may_have size = nat_le 1 size && nat_le size SIZE_LIMIT
 
@@ -32,6 +33,7 @@ may_have size = nat_le 1 size && nat_le size SIZE_LIMIT
 abbrev pub refitted : ℕ → List ℕ → List ℕ
 refitted size bytes = take size bytes ++ replicate (size - length bytes) 0xFF
 
+-- a transparent EF with so many bytes; any other stays as it is
 abbrev pub contents_refitted : ℕ → Contents → Contents
 contents_refitted size Files = Files
 contents_refitted size (Bytes bytes) = Bytes (refitted size bytes)
@@ -41,6 +43,7 @@ contents_refitted size (Records records) = Records records
 abbrev pub has_no_room : Persistent → ℕ → Descriptor → Bool
 has_no_room state size file = nat_lt file.size size && is_none (room_at state size)
 
+-- the file with another size: where it was, or where there is room for it if it grows
 abbrev pub file_resized : Option ℕ → ℕ → File → File
 file_resized room size file = record file {
   place = if nat_lt file.size size then unwrap_or room file.place else file.place;
@@ -61,6 +64,9 @@ resizing state channels size file = record {
 abbrev pub resized_if_room : Persistent → List (Option Selection) → ℕ → Descriptor → Result TreeOutcome StatusWord
 resized_if_room state channels size file = refused_if (has_no_room state size file) NO_ROOM (Ok (resizing state channels size file))
 
+-- RESIZE FILE: what it comes to. Its data are the card's own, an identifier and a size. It is refused where P1 and P2 are not 00 (6A86), where the
+-- data are not four bytes (6700) or name no file of the current DF (6A82), where the file is not transparent (6981) or is deactivated (6985), where
+-- the condition of ADM1 is not satisfied (6982), where no file has that size (6A80), and where there is no room (6A84).
 unfoldable pub resized : Persistent → Verified → List (Option Selection) → ℕ → Apdu → Result TreeOutcome StatusWord
 resized state seen channels channel apdu =
     needs (has_no_parameters apdu) WRONG_PARAMETERS (

@@ -28,12 +28,15 @@ IsSmallestRoom state size (Some place) = IsRoom state size place × ((other : �
 abbrev pub share_a_byte : ℕ → ℕ → ℕ → ℕ → Bool
 share_a_byte place size other other_size = nat_lt (max place other) (min (place + size) (other + other_size))
 
+-- an EF that has one of these bytes
 abbrev pub is_in_the_way : ℕ → ℕ → File → Bool
 is_in_the_way place size file = is_ef_kind file.kind && share_a_byte place size file.place file.size
 
+-- so many bytes may stand from this place on: they lie among those of the files, and no EF is in the way
 abbrev pub is_room : Persistent → ℕ → ℕ → Bool
 is_room state size place = nat_le data_place place && nat_le (place + size) (data_end state.is_wide) && not (list_any (is_in_the_way place size) state.files)
 
+-- the smallest of the numbers, if there is one
 abbrev pub smallest : List ℕ → Option ℕ
 smallest [] = None
 smallest (number ∷ numbers) = Some (option_map_or (min number) (smallest numbers) number)

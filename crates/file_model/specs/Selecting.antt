@@ -38,6 +38,7 @@ selecting state apdu file = record {
   passed = [];
 }
 
+-- SELECT: what it comes to; it is refused for P1 and P2 (6A86), for the length of the data (6700), and where no such file is found (6A82)
 unfoldable pub file_selected : Persistent → Selection → Apdu → Result FileOutcome StatusWord
 file_selected state selection apdu =
     needs (has_select_parameters apdu) WRONG_PARAMETERS (
@@ -47,6 +48,7 @@ file_selected state selection apdu =
 
 -- ---- STATUS
 
+-- P1 says what the terminal does with the application, which changes nothing here; P2 asks for the FCP (00) or for no data (0C)
 abbrev pub has_status_parameters : Apdu → Bool
 has_status_parameters apdu = (apdu.p1 == 0x00 || apdu.p1 == 0x01 || apdu.p1 == 0x02) && (apdu.p2 == 0x00 || apdu.p2 == 0x0C)
 
@@ -59,6 +61,7 @@ telling state selection apdu df = record {
   passed = [];
 }
 
+-- STATUS: what it comes to; it is refused for P1 and P2 (6A86) and with data (6700)
 unfoldable pub status_told : Persistent → Selection → Apdu → Result FileOutcome StatusWord
 status_told state selection apdu =
     needs (has_status_parameters apdu) WRONG_PARAMETERS (

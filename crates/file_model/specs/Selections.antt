@@ -65,6 +65,7 @@ chosen_by_path files df (id ∷ next ∷ path) = option_and_then (λ child. chos
 abbrev pub chosen_above : List Descriptor → ℕ → Option Descriptor
 chosen_above files df = if df == 0 then None else file_found files (Number (parent_of files df))
 
+-- the file that the first identifier of the data names
 abbrev pub chosen_first : List Descriptor → ℕ → List FileId → Option Descriptor
 chosen_first files df [] = None
 chosen_first files df (id ∷ ids) = chosen_by_identifier files df id

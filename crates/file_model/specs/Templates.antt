@@ -19,11 +19,11 @@ use Rattle.file_model.specs.declared.asked.NewFile.TheVariants.{Df, Ef}
 
 -- ---- how it is written
 
--- the file descriptor of a DF, and of an EF: its kind and the data coding byte; with records also their length and their
--- number (11.1.1.4.3)
+-- the file descriptor of a DF: its kind and the data coding byte (11.1.1.4.3)
 abbrev pub df_kind_bytes : List ℕ
 df_kind_bytes = df_kind ∷ 0x21 ∷ []
 
+-- the file descriptor of an EF: its kind and the data coding byte; with records also their length and their number (11.1.1.4.3)
 abbrev pub ef_kind_bytes : Shape → List ℕ
 ef_kind_bytes (Transparent size) = transparent_kind ∷ 0x21 ∷ []
 ef_kind_bytes (Linear width count) = linear_kind ∷ 0x21 ∷ 0x00 ∷ width ∷ count ∷ []
@@ -39,6 +39,7 @@ template_objects (Df id) = object 0x82 df_kind_bytes ++ object 0x83 (two_bytes i
 template_objects (Ef id shape short rule) =
     object 0x82 (ef_kind_bytes shape) ++ object 0x83 (two_bytes id.0) ++ rule_object rule ++ object 0x80 (two_bytes (size_of shape)) ++ object 0x88 (short_value short)
 
+-- the FCP template that asks for this file
 unfoldable pub template : NewFile → List ℕ
 template file = object 0x62 (template_objects file)
 
@@ -79,6 +80,7 @@ id_place bytes = if has_records (slice_index bytes 4) then 11 else 8
 abbrev pub has_rule : List ℕ → ℕ → Bool
 has_rule bytes behind = slice_index bytes behind == 0x8B
 
+-- the rule, where one stands behind the identifier: its EF_ARR and the number of its record
 abbrev pub rule_told : List ℕ → ℕ → Option RuleReference
 rule_told bytes behind = if has_rule bytes behind then Some (record { arr = record { 0 = number_at bytes (behind + 2) }; number = slice_index bytes (behind + 4) }) else None
 
@@ -86,6 +88,7 @@ rule_told bytes behind = if has_rule bytes behind then Some (record { arr = reco
 abbrev pub size_place : List ℕ → ℕ → ℕ
 size_place bytes behind = if has_rule bytes behind then behind + 7 else behind + 2
 
+-- the structure, by the file descriptor: with records their length and number stand there, and else the size at this place
 abbrev pub shape_told : List ℕ → ℕ → Shape
 shape_told bytes at =
     if slice_index bytes 4 == linear_kind then Linear (slice_index bytes 7) (slice_index bytes 8)

@@ -31,10 +31,11 @@ df_on channels channel = option_map_or (λ selection. selection.df) (slice_index
 abbrev pub is_current : List (Option Selection) → ℕ → Bool
 is_current channels df = list_any (λ channel. option_map_or (λ selection. selection.df == df) channel false) channels
 
--- where this EF was the current one there is none, and no record pointer
+-- this EF is the current one
 abbrev pub has_ef : ℕ → Selection → Bool
 has_ef number selection = option_map_or (λ ef. ef == number) selection.ef false
 
+-- where this EF was the current one there is none, and no record pointer
 abbrev pub without_ef : ℕ → Selection → Selection
 without_ef number selection = if has_ef number selection then record { df = selection.df; ef = None; pointer = None } else selection
 

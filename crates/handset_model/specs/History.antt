@@ -26,6 +26,7 @@ use Rattle.handset_model.specs.declared.known.Listed.{Listed}
 use Rattle.handset_model.specs.declared.known.Running.{Running}
 use Rattle.handset_model.specs.Timers.{seconds_of}
 
+-- what can happen at a handset
 pub data Happened : Type 0 where
   -- a line of the script was read
   Said : HandsetLine → Happened
@@ -44,10 +45,12 @@ pub data Happened : Type 0 where
 
 -- ---- the commands that were sent
 
+-- call control counts as Calling, any other envelope as Reporting
 abbrev pub kind_of_report : Report → LastSent
 kind_of_report (CallControl digits) = Calling
 kind_of_report _ = Reporting
 
+-- what a command counts as where its answer is taken
 abbrev pub kind_of : Command → LastSent
 kind_of SelectMf = Selecting
 kind_of (Fetch size) = Fetching
@@ -69,6 +72,7 @@ commands (_ ∷ h) = commands h
 
 -- ---- the commands that were fetched
 
+-- the command with its details, where it could be read
 abbrev pub as_held : Result (Details × Proactive) ProactiveFault → Option Held
 as_held (Ok found) = Some (record { details = found.0; command = found.1 })
 as_held (Err fault) = None
@@ -78,38 +82,43 @@ abbrev pub brought : LastSent → Answer → Option Held
 brought Fetching answer = as_held (proactive_of answer.body)
 brought _ answer = None
 
+-- something as the command changes it that came, or as it was where none came
 abbrev pub with_command : {A : Type 0} → (Proactive → A → A) → Option Held → A → A
 with_command change None old = old
 with_command change (Some held) old = change held.command old
 
--- the menu: the one that was set up last since the reset
+-- SET UP MENU brings its items
 abbrev pub menu_by : Proactive → List Item → List Item
 menu_by (SetUpMenu title items) old = items
 menu_by _ old = old
 
+-- the menu: the one that was set up last since the reset
 abbrev pub menu : List Happened → List Item
 menu [] = []
 menu (Answered answer ∷ h) = with_command menu_by (brought (last_sent h) answer) (menu h)
 menu (Restarted ∷ h) = []
 menu (_ ∷ h) = menu h
 
--- the events: those that were listed last since the reset, but for the user's activity and the idle screen once they were
--- reported
+-- no event is listed
 abbrev pub none_listed : Listed
 none_listed = record { location = false; activity = false; idle = false }
 
+-- the code is one of the events
 abbrev pub has : List ℕ → ℕ → Bool
 has events code = list_any (λ event. event == code) events
 
+-- SET UP EVENT LIST lists its events, and no others any more (ETSI TS 102 223, 6.4.16); of these three this handset reports
 abbrev pub listed_by : Proactive → Listed → Listed
 listed_by (SetUpEventList events) old = record { location = has events LOCATION_STATUS; activity = has events USER_ACTIVITY; idle = has events IDLE_SCREEN }
 listed_by _ old = old
 
+-- an event of the user's activity or of the idle screen is listed no more once it was reported
 abbrev pub listed_after : Command → Listed → Listed
 listed_after (Tell UserActivity) old = record old { activity = false }
 listed_after (Tell IdleScreen) old = record old { idle = false }
 listed_after _ old = old
 
+-- the events: those that were listed last since the reset, but for the user's activity and the idle screen once they were reported
 abbrev pub listed : List Happened → Listed
 listed [] = none_listed
 listed (Answered answer ∷ h) = with_command listed_by (brought (last_sent h) answer) (listed h)
@@ -117,15 +126,17 @@ listed (Sent command ∷ h) = listed_after command (listed h)
 listed (Restarted ∷ h) = none_listed
 listed (_ ∷ h) = listed h
 
--- the held command: the one that was fetched last since the reset, where it has no response
+-- the command that came, or the old one where none came
 abbrev pub held_by : Option Held → Option Held → Option Held
 held_by None old = old
 held_by (Some held) old = Some held
 
+-- a terminal response leaves no command that is held
 abbrev pub held_after : Command → Option Held → Option Held
 held_after (Respond details reply) old = None
 held_after _ old = old
 
+-- the held command: the one that was fetched last since the reset, where it has no response
 abbrev pub held : List Happened → Option Held
 held [] = None
 held (Answered answer ∷ h) = held_by (brought (last_sent h) answer) (held h)
@@ -143,11 +154,12 @@ announced [] = None
 announced (Answered answer ∷ h) = announced_by answer
 announced (_ ∷ h) = announced h
 
--- whether a REFRESH that resets the card was fetched in this line
+-- the command is REFRESH with a reset of the card (04), or there was one before
 abbrev pub refreshed_by : Proactive → Bool → Bool
 refreshed_by (Refresh mode) old = (mode == CARD_RESET) || old
 refreshed_by _ old = old
 
+-- whether a REFRESH that resets the card was fetched in this line
 abbrev pub is_refreshed : List Happened → Bool
 is_refreshed [] = false
 is_refreshed (Said line ∷ h) = false
@@ -156,16 +168,18 @@ is_refreshed (_ ∷ h) = is_refreshed h
 
 -- ---- location and time
 
--- the location is the one that the network told last; it survives resets
+-- a line of the network tells the location
 abbrev pub place_by : HandsetLine → Option (List ℕ) → Option (List ℕ)
 place_by (NetPlace place) old = Some place
 place_by _ old = old
 
+-- the location is the one that the network told last; it survives resets
 abbrev pub place : List Happened → Option (List ℕ)
 place [] = None
 place (Said line ∷ h) = place_by line (place h)
 place (_ ∷ h) = place h
 
+-- how many seconds a line lets pass
 abbrev pub span_of : HandsetLine → ℕ
 span_of (Time seconds) = seconds
 span_of _ = 0
@@ -176,41 +190,47 @@ clock [] = 0
 clock (Said line ∷ h) = clock h + span_of line
 clock (_ ∷ h) = clock h
 
--- the moment that is lived through: the clock, or the due moment of the timer that was reported last in this line
+-- once a timer is reported the moment is the one at which it was due, and never after now
 abbrev pub moment_after : Command → ℕ → ℕ → ℕ
 moment_after (Tell (Expired timer value due)) now old = min due now
 moment_after _ now old = old
 
+-- the moment that is lived through: the clock, or the due moment of the timer that was reported last in this line
 abbrev pub moment : List Happened → ℕ
 moment [] = 0
 moment (Said line ∷ h) = clock h + span_of line
 moment (Sent command ∷ h) = moment_after command (clock h) (moment h)
 moment (_ ∷ h) = moment h
 
+-- the line is `time`
 abbrev pub lets_time_pass : HandsetLine → Bool
 lets_time_pass (Time seconds) = true
 lets_time_pass _ = false
 
+-- the line that is carried out lets time pass
 abbrev pub is_timed : List Happened → Bool
 is_timed [] = false
 is_timed (Said line ∷ h) = lets_time_pass line
 is_timed (_ ∷ h) = is_timed h
 
--- a timer runs from its start to its stop or its report, or to the reset
+-- the new value where this is so, else the old one
 abbrev pub running_if : Bool → Option Running → Option Running → Option Running
 running_if true new old = new
 running_if false new old = old
 
+-- TIMER MANAGEMENT that starts this timer sets the moment at which it is due; one that deactivates it stops it (ETSI TS 102 223, 6.4.21)
 abbrev pub running_by : ℕ → ℕ → Proactive → Option Running → Option Running
 running_by timer now (TimerManagement action other value) old =
     if action == START then running_if (other == timer) (Some (record { due = now + seconds_of value; value = value })) old
     else (if action == DEACTIVATE then running_if (other == timer) None old else old)
 running_by timer now _ old = old
 
+-- a timer that is reported runs no more
 abbrev pub running_after : ℕ → Command → Option Running → Option Running
 running_after timer (Tell (Expired other value due)) old = running_if (other == timer) None old
 running_after timer _ old = old
 
+-- a timer runs from its start to its stop or its report, or to the reset
 abbrev pub running : ℕ → List Happened → Option Running
 running timer [] = None
 running timer (Answered answer ∷ h) = with_command (running_by timer (moment h)) (brought (last_sent h) answer) (running timer h)
@@ -222,6 +242,7 @@ running timer (_ ∷ h) = running timer h
 abbrev pub timer_numbers : List ℕ
 timer_numbers = 1 ∷ 2 ∷ 3 ∷ 4 ∷ 5 ∷ 6 ∷ 7 ∷ 8 ∷ []
 
+-- each of the eight timers, if it runs
 abbrev pub timers : List Happened → List (Option Running)
 timers h = map (λ timer. running timer h) timer_numbers
 
@@ -232,6 +253,7 @@ timers h = map (λ timer. running timer h) timer_numbers
 abbrev pub ends_all : Answer → ℕ → Bool
 ends_all answer count = (answer.status.0 == 0x6581) || (count == MOST_COMMANDS)
 
+-- the handset does nothing until the next reset: such an answer came, power was lost, or a command met a card without power
 abbrev pub is_silent : List Happened → Bool
 is_silent [] = false
 is_silent (Answered answer ∷ h) = ends_all answer (commands h) || is_silent h

@@ -37,6 +37,8 @@ next_item h = item_of (asked h)
 abbrev pub MayLosePower : Duty → Type 0
 MayLosePower duty = (duty ≡ Await) ⊎ (duty ≡ ResetCard)
 
+-- what happened is what was to be done: a line is read where nothing is left to do; a command, a note or a reset is the one that was asked for; an
+-- answer comes, or no power is found, where an answer is awaited; power is lost there or in a reset
 abbrev pub IsAsked : Happened → Duty → Type 0
 IsAsked (Said line) duty = duty ≡ Rest
 IsAsked (Sent command) duty = duty ≡ Transmit command
@@ -46,6 +48,7 @@ IsAsked Restarted duty = duty ≡ ResetCard
 IsAsked PowerCut duty = MayLosePower duty
 IsAsked FoundOff duty = duty ≡ Await
 
+-- each thing that happened is what was asked for by what happened before it
 abbrev pub IsOrderly : List Happened → Type 0
 IsOrderly [] = Unit {0}
 IsOrderly (event ∷ h) = IsAsked event (asked h) × IsOrderly h
@@ -83,6 +86,7 @@ items_seen [] = []
 items_seen (Seen shown ∷ others) = shown ∷ items_seen others
 items_seen (Shown note ∷ others) = items_seen others
 
+-- all in this history was asked for, and these are its lines and its trace
 pub record IsOf (lines : List HandsetLine) (trace : List TraceEntry) (history : List Happened) : Type 0 where
   pub orderly : IsOrderly history
   pub lines_are : reverse (lines_of history) ≡ lines

@@ -33,9 +33,11 @@ use Rattle.handset_model.specs.declared.known.LastSent.{LastSent}
 use Rattle.handset_model.specs.declared.known.LastSent.TheVariants.{NoCommand, Selecting, Fetching, Calling, Reporting, Another}
 use Rattle.handset_model.specs.declared.known.Running.{Running}
 
+-- to send an envelope
 abbrev pub tell : Report → Duty
 tell report = Transmit (Tell report)
 
+-- to send a terminal response to the held command
 abbrev pub respond : Held → Reply → Duty
 respond held reply = Transmit (Respond held.details reply)
 
@@ -51,6 +53,7 @@ abbrev pub ripe : ℕ → Option Due → Option Due
 ripe clock None = None
 ripe clock (Some due) = if nat_le due.due clock then Some due else None
 
+-- to report the timer that is due, if one is (7.4)
 abbrev pub report_due : Option Due → Duty
 report_due None = Rest
 report_due (Some due) = tell (Expired due.timer due.value due.due)
@@ -66,21 +69,27 @@ fetch_or_settle (Some size) known = Transmit (Fetch size)
 
 -- ---- carrying out a proactive command
 
+-- the location is told; where none is known the handset is unable to process the command
 abbrev pub located : Option (List ℕ) → Reply
 located None = Unable
 located (Some place) = Located place
 
+-- PROVIDE LOCAL INFORMATION (6.4.15): the location alone; anything else is beyond the handset's capabilities
 abbrev pub local_information : ℕ → Known → Reply
 local_information what known = if what == LOCATION then located known.place else Result BEYOND_CAPABILITIES
 
+-- what is left of a timer, or that it doesn't run
 abbrev pub left_of : ℕ → ℕ → Option Running → Reply
 left_of timer now None = NotRunning timer
 left_of timer now (Some running) = Left timer (time_of (running.due - now))
 
+-- TIMER MANAGEMENT (6.4.21): a timer was started, or what is left of it
 abbrev pub timer_reply : ℕ → ℕ → Known → Reply
 timer_reply action timer known =
     if action == START then Started timer else left_of timer known.moment (timer_in known.timers timer)
 
+-- REFRESH (6.4.7): for a reset of the card (04) the card is reset, and where it was so in this line already the handset is unable to; any other mode
+-- counts as performed
 abbrev pub refresh : ℕ → Held → Known → Duty
 refresh mode held known =
     if mode == CARD_RESET then (if known.is_refreshed then respond held Unable else ResetCard) else respond held (Result PERFORMED)
@@ -108,6 +117,7 @@ fault_result Missing = VALUES_MISSING
 fault_result Tlv = DATA_NOT_UNDERSTOOD
 fault_result BadData = DATA_NOT_UNDERSTOOD
 
+-- a command that was fetched is carried out; one that can't be read is answered with the result for its fault
 abbrev pub fetched : Outcome (Details × Proactive) ProactiveFault → Details → Known → Duty
 fetched (Ok found) details known = carried_out found.1 (record { details = found.0; command = found.1 }) known
 fetched (Err fault) details known = Transmit (Respond details (Result (fault_result fault)))
@@ -123,6 +133,7 @@ abbrev pub after_call : List ℕ → Duty → Duty
 after_call body duty =
     if is_pair body 0x00 0x00 then Show Call else (if is_pair body 0x01 0x00 then Show Barred else duty)
 
+-- the command that the answer announces is fetched, or the session is over
 abbrev pub followed : Answer → Known → Duty
 followed answer known = fetch_or_settle (announced_by answer) known
 
@@ -137,9 +148,12 @@ answered Another answer known = followed answer known
 
 -- ---- what follows a note
 
+-- the held command, if there is one, is answered as performed
 abbrev pub respond_done : Option Held → Duty
 respond_done held = with_held held (λ command. respond command (Result PERFORMED))
 
+-- by the note: a text, a question and a choice wait for the user; a menu, a tone and an idle text are answered as performed; after call control the
+-- announced command is fetched; a busy card is left alone
 abbrev pub noted : Note → Known → Duty
 noted (Text text) known = settled known
 noted (Ask text) known = settled known
@@ -164,12 +178,15 @@ takes (GetInkey prompt) count = count == 1
 takes (GetInput prompt digits least most) count = nat_le least count && nat_le count most
 takes _ count = false
 
+-- the text that the user typed answers the held command, where this takes one of its length
 abbrev pub type_in : List ℕ → Held → Duty
 type_in text held = if takes held.command (length text) then respond held (Typed text) else Rest
 
+-- one of the items has this identifier
 abbrev pub lists : ℕ → List Item → Bool
 lists id items = list_any (λ item. item.id == id) items
 
+-- to report that an item of the menu was selected (7.2), if the menu has it
 abbrev pub pick_in_menu : ℕ → Known → Duty
 pick_in_menu id known = if lists id known.menu then tell (MenuSelection id) else Rest
 
@@ -178,13 +195,16 @@ abbrev pub pick : ℕ → Proactive → Held → Known → Duty
 pick id (SelectItem title items) held known = if lists id items then respond held (Chosen id) else Rest
 pick id _ held known = pick_in_menu id known
 
+-- an item is picked of the held command, or of the menu where no command is held
 abbrev pub pick_with : ℕ → Option Held → Known → Duty
 pick_with id None known = pick_in_menu id known
 pick_with id (Some held) known = pick id held.command held known
 
+-- the held command, if there is one, is answered with this general result (8.12)
 abbrev pub end_with : ℕ → Known → Duty
 end_with general known = with_held known.held (λ held. respond held (Result general))
 
+-- what each line asks for: the user's answers to the held command, the events that are listed, a call, a STATUS, the timers that are due, a reset
 abbrev pub said : HandsetLine → Known → Duty
 said UserOk known = with_held known.held (λ held. confirm held.command held)
 said UserEnd known = end_with SESSION_ENDED known
@@ -200,6 +220,7 @@ said NetPoll known = Transmit AskStatus
 said (Time seconds) known = settled known
 said Reset known = ResetCard
 
+-- the line is `reset`
 abbrev pub is_reset : HandsetLine → Bool
 is_reset Reset = true
 is_reset _ = false
@@ -209,6 +230,7 @@ abbrev pub said_at : Bool → HandsetLine → Known → Duty
 said_at true line known = if is_reset line then ResetCard else Rest
 said_at false line known = said line known
 
+-- after a failure no answer asks for anything
 abbrev pub answered_at : Bool → Answer → Known → Duty
 answered_at true answer known = Rest
 answered_at false answer known = answered known.last_sent answer known

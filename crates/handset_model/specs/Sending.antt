@@ -21,14 +21,17 @@ use Rattle.handset_model.specs.declared.commands.Reply.TheVariants.{Result, Type
 abbrev pub from : ℕ → Object
 from device = required DEVICE_IDENTITIES (device ∷ CARD ∷ [])
 
+-- a timer identifier (TS 102 223, 8.37)
 abbrev pub timer_object : ℕ → Object
 timer_object timer = required TIMER_IDENTIFIER (timer ∷ [])
 
 -- ---- terminal responses
 
+-- the result that the command was performed (00), and one object behind it
 abbrev pub performed : Object → List Object
 performed object = result_object PERFORMED ∷ object ∷ []
 
+-- the result (TS 102 223, 8.12) and what goes with it: a text, an item, a duration, a location, a timer
 abbrev pub reply_objects : Reply → List Object
 reply_objects (Result general) = result_object general ∷ []
 reply_objects (Typed text) = performed (text_string text)
@@ -53,10 +56,11 @@ packed [] = []
 packed (first ∷ []) = (16 * 0xF + first % 16) ∷ []
 packed (first ∷ second ∷ others) = (16 * (second % 16) + first % 16) ∷ packed others
 
--- an international number
-abbrev pub INTERNATIONAL : ℕ
-INTERNATIONAL = 0x81
+-- the type of number is unknown, and the numbering plan is that of ISDN and telephony (TS 102 223, 8.1)
+abbrev pub UNKNOWN_TYPE_ISDN : ℕ
+UNKNOWN_TYPE_ISDN = 0x81
 
+-- the first objects of an event download (TS 102 223, 7.5): the event, and who tells it
 abbrev pub event : ℕ → ℕ → List Object
 event code device = required EVENT_LIST (code ∷ []) ∷ from device ∷ []
 
@@ -64,6 +68,7 @@ event code device = required EVENT_LIST (code ∷ []) ∷ from device ∷ []
 abbrev pub NORMAL_SERVICE : ℕ
 NORMAL_SERVICE = 0x00
 
+-- the tag of each envelope: menu selection, event download, call control, timer expiration
 abbrev pub template_of : Report → ℕ
 template_of (MenuSelection item) = MENU_SELECTION
 template_of UserActivity = EVENT_DOWNLOAD
@@ -72,15 +77,17 @@ template_of (Location place) = EVENT_DOWNLOAD
 template_of (CallControl digits) = CALL_CONTROL
 template_of (Expired timer value due) = TIMER_EXPIRATION
 
+-- the objects of each envelope (TS 102 223, 7)
 abbrev pub report_objects : Report → List Object
 report_objects (MenuSelection item) = from KEYPAD ∷ required ITEM_IDENTIFIER (item ∷ []) ∷ []
 report_objects UserActivity = event USER_ACTIVITY TERMINAL
 report_objects IdleScreen = event IDLE_SCREEN DISPLAY
 report_objects (Location place) =
     event LOCATION_EVENT TERMINAL ++ required LOCATION_STATUS (NORMAL_SERVICE ∷ []) ∷ required LOCATION_INFORMATION place ∷ []
-report_objects (CallControl digits) = from TERMINAL ∷ required ADDRESS (INTERNATIONAL ∷ packed digits) ∷ []
+report_objects (CallControl digits) = from TERMINAL ∷ required ADDRESS (UNKNOWN_TYPE_ISDN ∷ packed digits) ∷ []
 report_objects (Expired timer value due) = from TERMINAL ∷ timer_object timer ∷ timer_value value ∷ []
 
+-- the bytes of an envelope
 abbrev pub envelope : Report → List ℕ
 envelope report = tagged (template_of report) (spellings (report_objects report))
 

@@ -4,6 +4,7 @@ use Rattle.toolkit_commands.specs.declared.commands.TimeValue.{TimeValue}
 use Rattle.handset_model.specs.declared.known.Due.{Due}
 use Rattle.handset_model.specs.declared.known.Running.{Running}
 
+-- a time in seconds
 abbrev pub seconds_of : TimeValue → ℕ
 seconds_of value = 3600 * value.hours + 60 * value.minutes + value.seconds
 
@@ -23,6 +24,7 @@ sooner None second = second
 sooner (Some first) None = Some first
 sooner (Some first) (Some second) = if nat_le first.due second.due then Some first else Some second
 
+-- the timer with the moment at which it is due, if it runs
 abbrev pub due_of : ℕ → Option Running → Option Due
 due_of timer None = None
 due_of timer (Some running) = Some (record { timer = timer; due = running.due; value = running.value })

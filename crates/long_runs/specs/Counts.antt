@@ -12,27 +12,34 @@ has_instruction code [] = false
 has_instruction code (class ∷ []) = false
 has_instruction code (class ∷ instruction ∷ others) = (class == 0x80) && (instruction == code)
 
+-- the instruction byte of FETCH (ETSI TS 102 221, 10.1.2)
 abbrev pub fetch : ℕ
 fetch = 0x12
 
+-- the instruction byte of TERMINAL RESPONSE
 abbrev pub terminal_response : ℕ
 terminal_response = 0x14
 
+-- the instruction byte of ENVELOPE
 abbrev pub envelope : ℕ
 envelope = 0xC2
 
+-- the line is a command to the card
 abbrev pub is_command : TraceLine → Bool
 is_command (Command apdu) = true
 is_command _ = false
 
+-- the line is a command of the toolkit with this instruction byte
 abbrev pub is_toolkit_command : ℕ → TraceLine → Bool
 is_toolkit_command code (Command apdu) = has_instruction code apdu
 is_toolkit_command code _ = false
 
+-- the note says that the card was busy
 abbrev pub is_busy_note : ANote → Bool
 is_busy_note note.Busy = true
 is_busy_note _ = false
 
+-- the line is such a note
 abbrev pub is_busy : TraceLine → Bool
 is_busy (Note noted) = is_busy_note noted
 is_busy _ = false

@@ -54,6 +54,7 @@ file_form path structure.Transparent = do
 file_form path structure.Linear = record_form (Linear path)
 file_form path structure.Cyclic = record_form (Cyclic path)
 
+-- `cut K N XX`, what stands behind K: so many bytes take their new value, and every other one takes XX
 abbrev pub cut_whole : ℕ → List (List ℕ) → ScriptLine → Type 0
 cut_whole call = do
   kept ← IsNumber 0 64

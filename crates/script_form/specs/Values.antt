@@ -37,6 +37,7 @@ keyword_text Net = codes "net"
 keyword_text Time = codes "time"
 keyword_text Cmd = codes "cmd"
 
+-- the word is that of this kind of line
 abbrev pub IsKeyword : List ℕ → Keyword → Type 0
 IsKeyword word keyword = word ≡ keyword_text keyword
 
@@ -46,6 +47,7 @@ structure_letter Transparent = codes "t"
 structure_letter Linear = codes "l"
 structure_letter Cyclic = codes "c"
 
+-- the word is the letter of this structure
 abbrev pub IsStructure : List ℕ → Structure → Type 0
 IsStructure word structure = word ≡ structure_letter structure
 
@@ -61,6 +63,7 @@ user_act_text Press = codes "press"
 user_act_text Idle = codes "idle"
 user_act_text Dial = codes "dial"
 
+-- the word is that of this act of the user
 abbrev pub IsUserAct : List ℕ → UserAct → Type 0
 IsUserAct word act = word ≡ user_act_text act
 
@@ -71,6 +74,7 @@ network_act_text Poll = codes "poll"
 network_act_text Echo = codes "echo"
 network_act_text Lose = codes "drop"
 
+-- the word is that of this act of the network
 abbrev pub IsNetworkAct : List ℕ → NetworkAct → Type 0
 IsNetworkAct word act = word ≡ network_act_text act
 
@@ -120,8 +124,8 @@ identifier_bytes identifier = identifier.0 / 256 ∷ identifier.0 % 256 ∷ []
 abbrev pub IsFourDigits : List ℕ → FileId → Type 0
 IsFourDigits word identifier = IsSized 2 word (identifier_bytes identifier)
 
--- An identifier that a file other than the MF may have: it is neither the MF's nor that of the current application,
--- which are reserved (ETSI TS 102 221, 8.2).
+-- An identifier that a file other than the MF may have: it is neither the MF's nor that of the current application, which are reserved
+-- (ETSI TS 102 221, 8.6).
 pub record IsFree (identifier : FileId) : Type 0 where
   pub not_mf : identifier.0 ≢ MF.0
   pub not_application : identifier.0 ≢ CURRENT_ADF.0
@@ -163,6 +167,7 @@ IsRule word (Some rule) = IsNamedRule word rule
 abbrev pub IsKey : ℕ → Type 0
 IsKey key = (key ≡ PIN_1) ⊎ ((key ≡ PIN_2) ⊎ (key ≡ ADM_1))
 
+-- one byte in hexadecimal digits, which is the reference of a PIN
 abbrev pub IsPinKey : List ℕ → ℕ → Type 0
 IsPinKey word key = IsByte word key × IsKey key
 

@@ -43,10 +43,11 @@ pub record AtStart (cast : List (Option AppletState)) (first : Option Persistent
   pub follows : Follows text given script left
   pub reach : IsTakenForLast text given left
 
--- what comes next is bad: a line in no form, one that may not stand here, or the end before `start`
+-- the line is not `start`, and may not stand here
 abbrev pub IsOutOfPlace : List (Option AppletState) → Option Persistent → ScriptLine → Type 0
 IsOutOfPlace cast card line = (line ≡ Start → ⊥) × (with_line cast card line ≡ Err Bad)
 
+-- what comes next is bad: a line in no form, one that may not stand here, or the end before `start`
 abbrev pub IsBadHere : List (Option AppletState) → Option Persistent → LineList → Type 0
 IsBadHere cast card [] = Unit {0}
 IsBadHere cast card (None ∷ more) = Unit {0}
@@ -64,6 +65,7 @@ StopsAt cast text given card left (BadLine number) = GoesOn text given left (IsB
 StopsAt cast text given card left (NoRoom number) = GoesOn text given left (IsTooMuchHere cast card) number
 StopsAt cast text given card left ReadFailed = IsTextCutShort text given left
 
+-- reading ended before `start`: what the lines before described, and why no more was read
 pub record EndsInSection (cast : List (Option AppletState)) (first : Option Persistent) (text : List ℕ) (left : Option (List ℕ)) (fault : ScriptFault) : Type 0 where
   pub section : List ScriptLine
   pub given : LineList

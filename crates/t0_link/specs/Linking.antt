@@ -16,6 +16,7 @@ pub record Linked : Type 0 where
   pub answer : Answer
   pub kept : Option Answer
 
+-- an answer without data
 abbrev pub status_alone : StatusWord → Answer
 status_alone status = record { body = []; status = status }
 
@@ -61,6 +62,8 @@ pub data Course : Type 0 where
   Answers : Linked → Course
   Passes : List ℕ → (Answer → Linked) → Course
 
+-- The link answers bytes that are no TPDU, and GET RESPONSE, by itself. A TPDU whose data come from the card is passed as it is, and its answer given
+-- as it is; of one whose data go to the card the APDU is passed, and the data of the answer are kept (ETSI TS 102 221, 7.3.1.1).
 abbrev pub course_of : Option Answer → List ℕ → Option Transfer → Course
 course_of kept tpdu None = Answers (misformed kept)
 course_of kept tpdu (Some GetResponse) = Answers (fetched (p3_of tpdu) kept)

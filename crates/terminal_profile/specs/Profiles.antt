@@ -38,6 +38,7 @@ pub record EventRow : Type 0 where
   pub code : ℕ
   pub place : Place
 
+-- a row by its parts
 abbrev pub event : ℕ → Place → EventRow
 event code place_of_bit = record { code = code; place = place_of_bit }
 

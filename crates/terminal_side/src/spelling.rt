@@ -258,8 +258,8 @@ const EVENT_BYTE: u8 = 0x99;
 
 const STATUS_BYTE: u8 = 0x9B;
 
-/// An international number (TS 102 223, 8.1).
-const INTERNATIONAL: u8 = 0x81;
+/// The type of number is unknown, and the numbering plan is that of ISDN and telephony (TS 102 223, 8.1).
+const UNKNOWN_TYPE_ISDN: u8 = 0x81;
 
 /// The handset is in normal service (8.27).
 const NORMAL_SERVICE: u8 = 0x00;
@@ -297,7 +297,7 @@ fn put_number(objects: &mut TlvWriter, digits: &Digits)
     ensures put { objects.new ≡ objects.old ++ spellings (required ADDRESS (0x81 ∷ packed digits.now) ∷ []) }
     ensures fits { length objects.new ≤ length objects.old + 23 }
 {
-    let mut value = Octets::from_slice(&[INTERNATIONAL]);
+    let mut value = Octets::from_slice(&[UNKNOWN_TYPE_ISDN]);
     put_packed(&mut value, digits.as_slice());
     put(objects, ADDRESS, value.as_slice())
 }

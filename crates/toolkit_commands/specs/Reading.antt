@@ -32,16 +32,20 @@ pub record TypeRow : Type 0 where
   pub needs : ℕ → List ℕ
   pub says : ℕ → List Object → Result Proactive ProactiveFault
 
+-- a row by its parts
 abbrev pub type_row : ℕ → (ℕ → Bool) → ℕ → (ℕ → List ℕ) → (ℕ → List Object → Result Proactive ProactiveFault) → TypeRow
 type_row kind has_qualifier destination needs says =
     record { kind = kind; has_qualifier = has_qualifier; destination = destination; needs = needs; says = says }
 
+-- any qualifier
 abbrev pub any_one : ℕ → Bool
 any_one qualifier = true
 
+-- this qualifier alone
 abbrev pub only : ℕ → ℕ → Bool
 only wanted qualifier = wanted == qualifier
 
+-- a qualifier up to this one
 abbrev pub up_to : ℕ → ℕ → Bool
 up_to most qualifier = nat_le qualifier most
 
@@ -54,33 +58,40 @@ abbrev pub timer_needs : ℕ → List ℕ
 timer_needs qualifier =
     if qualifier == START then TIMER_IDENTIFIER ∷ TIMER_VALUE ∷ [] else TIMER_IDENTIFIER ∷ []
 
+-- POLL INTERVAL, with its duration
 abbrev pub poll_interval_said : List Object → Result Proactive ProactiveFault
 poll_interval_said list = seconds_of (value DURATION list) >>= λ seconds. Ok (PollInterval seconds)
 
+-- PLAY TONE, with its tone
 abbrev pub tone_said : List Object → Result Proactive ProactiveFault
 tone_said list = one_byte (value TONE list) >>= λ tone. Ok (PlayTone tone)
 
+-- a command that is one text: DISPLAY TEXT, GET INKEY or SET UP IDLE MODE TEXT
 abbrev pub text_said : (List ℕ → Proactive) → List Object → Result Proactive ProactiveFault
 text_said command list = text_of (value TEXT_STRING list) >>= λ text. Ok (command text)
 
+-- GET INPUT, with its text, whether it asks for digits alone, and the least and the greatest length of the answer (8.11)
 abbrev pub input_said : ℕ → List Object → Result Proactive ProactiveFault
 input_said qualifier list = do
   text ← text_of (value TEXT_STRING list)
   bounds ← two_bytes (value RESPONSE_LENGTH list)
   Ok (GetInput text (qualifier == DIGITS) bounds.0 bounds.1)
 
+-- SELECT ITEM, with its title and its items
 abbrev pub choice_said : List Object → Result Proactive ProactiveFault
 choice_said list = do
   title ← short_text_of (value ALPHA_IDENTIFIER list)
   items ← choice_of (values ITEM list)
   Ok (SelectItem title items)
 
+-- SET UP MENU, with its title and its items
 abbrev pub menu_said : List Object → Result Proactive ProactiveFault
 menu_said list = do
   title ← short_text_of (value ALPHA_IDENTIFIER list)
   items ← menu_read (values ITEM list)
   Ok (SetUpMenu title items)
 
+-- TIMER MANAGEMENT, with the timer, and with its value where it is started
 abbrev pub timer_said : ℕ → List Object → Result Proactive ProactiveFault
 timer_said action list = do
   timer ← timer_of (value TIMER_IDENTIFIER list)
@@ -105,11 +116,13 @@ type_table =
     ∷ type_row IDLE_TEXT (only NONE) TERMINAL (always (TEXT_STRING ∷ [])) (λ qualifier list. text_said (λ text. IdleText text) list)
     ∷ []
 
+-- the row of a type of command, if it is known
 abbrev pub row_of_type : ℕ → Option TypeRow
 row_of_type kind = find (λ row. kind == row.kind) type_table
 
 -- ---- the details
 
+-- the details in three bytes: the number, the type and the qualifier of a command
 abbrev pub three : Option (List ℕ) → Option Details
 three (Some (number ∷ kind ∷ qualifier ∷ [])) = Some (record { number = number; kind = kind; qualifier = qualifier })
 three _ = None
@@ -140,6 +153,7 @@ by_row details list (Some row) =
     if row.has_qualifier details.qualifier && is_pair (value DEVICE_IDENTITIES list) CARD row.destination
     then (row.says details.qualifier list >>= λ command. Ok (details, command)) else Err BadData
 
+-- what a command with these details says; BadData where they aren't three bytes long
 abbrev pub by_details : List Object → Option Details → Result (Details × Proactive) ProactiveFault
 by_details list None = Err BadData
 by_details list (Some details) = by_row details list (row_of_type details.kind)
@@ -149,10 +163,12 @@ unfoldable pub command_among : List Object → Result (Details × Proactive) Pro
 command_among list =
     if lacks_one list (needed_by (details_in list)) then Err Missing else by_details list (details_in list)
 
+-- the objects, where the bytes are a list of them
 abbrev pub in_list : Result (List Object) TlvFault → Option (List Object)
 in_list (Ok list) = Some list
 in_list (Err fault) = None
 
+-- the list of objects in a template, where its tag is that of a proactive command (D0)
 abbrev pub in_template : Result (ℕ × List ℕ) TlvFault → Option (List Object)
 in_template (Ok x) = if x.0 == PROACTIVE_COMMAND then in_list (objects_of x.1) else None
 in_template (Err fault) = None
@@ -161,6 +177,7 @@ in_template (Err fault) = None
 unfoldable pub list_of : List ℕ → Option (List Object)
 list_of bytes = in_template (template_of bytes)
 
+-- the command of a list of objects; Tlv where the bytes are none
 abbrev pub or_tlv : Option (List Object) → Result (Details × Proactive) ProactiveFault
 or_tlv None = Err Tlv
 or_tlv (Some list) = command_among list
@@ -171,6 +188,7 @@ proactive_of bytes = or_tlv (list_of bytes)
 
 -- ---- the details of a command that cannot be read
 
+-- the details 00 00 00
 abbrev pub no_details : Details
 no_details = record { number = 0x00; kind = 0x00; qualifier = 0x00 }
 

@@ -12,11 +12,12 @@ use Rattle.toolkit_commands.specs.declared.tags.TheConstants.{COMMAND_DETAILS, R
 abbrev pub result_object : ℕ → Object
 result_object general = required RESULT (general ∷ [])
 
--- the first item identifier of one byte, or 0
+-- a value of one byte, or else the other number
 abbrev pub one_or : List ℕ → ℕ → ℕ
 one_or (item ∷ []) other = item
 one_or _ other = other
 
+-- the first item identifier of one byte, or 0
 abbrev pub item_among : List Object → ℕ
 item_among [] = 0
 item_among (object ∷ others) =
@@ -34,11 +35,13 @@ details_match details (Some (number ∷ kind ∷ qualifier ∷ [])) =
     (number == details.number) && (kind == details.kind) && (qualifier == details.qualifier)
 details_match details _ = false
 
+-- a response needs a result of at least one byte, which is the general result (8.12); the item and the text come with it
 abbrev pub with_result : List Object → Option (List ℕ) → Option Response
 with_result objects (Some (result ∷ more)) =
     Some (record { result = result; item = item_among objects; text = text_after (first_value TEXT_STRING objects) })
 with_result objects _ = None
 
+-- a response to the command with these details, which it has to repeat
 abbrev pub response_among : Details → Result (List Object) TlvFault → Option Response
 response_among details (Err fault) = None
 response_among details (Ok objects) =

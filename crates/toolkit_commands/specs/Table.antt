@@ -19,6 +19,7 @@ pub record CommandRow : Type 0 where
   pub destination : ℕ
   pub objects : List Object
 
+-- a row by its parts
 abbrev pub command_row : ℕ → ℕ → ℕ → List Object → CommandRow
 command_row kind qualifier destination objects =
     record { kind = kind; qualifier = qualifier; destination = destination; objects = objects }
@@ -44,6 +45,7 @@ menu_objects (item ∷ others) = map item_object (item ∷ others)
 abbrev pub two_digits : ℕ → ℕ
 two_digits n = 16 * (n % 10) + n / 10
 
+-- hours, minutes and seconds (8.38)
 abbrev pub timer_value : TimeValue → Object
 timer_value value = required TIMER_VALUE (two_digits value.hours ∷ two_digits value.minutes ∷ two_digits value.seconds ∷ [])
 
@@ -52,10 +54,12 @@ abbrev pub timer_objects : ℕ → ℕ → TimeValue → List Object
 timer_objects action timer value =
     required TIMER_IDENTIFIER (timer ∷ []) ∷ (if action == START then timer_value value ∷ [] else [])
 
+-- the qualifier of GET INPUT: 00 for digits alone, 01 for any characters (8.6)
 abbrev pub input_qualifier : Bool → ℕ
 input_qualifier true = DIGITS
 input_qualifier false = CHARACTERS
 
+-- the row of each command
 abbrev pub row_of : Proactive → CommandRow
 row_of (Refresh mode) = command_row REFRESH mode TERMINAL []
 row_of MoreTime = command_row MORE_TIME NONE TERMINAL []
@@ -97,6 +101,8 @@ abbrev pub HasWritableTime : Proactive → Type 0
 HasWritableTime (TimerManagement action timer value) = IsWritable value
 HasWritableTime _ = Unit {0}
 
+-- a timer from 1 to 8 that is started, deactivated or asked for its value; the time has two digits for each part, and is 0 unless the timer is
+-- started
 pub record IsProperTimer (action timer : ℕ) (value : TimeValue) : Type 0 where
   pub writable : IsWritable value
   pub zero_unless_started : action ≢ START → value ≡ record { hours = 0; minutes = 0; seconds = 0 }

@@ -30,12 +30,16 @@ use Rattle.toolkit_model.specs.Driving.{is_idle, with_session, told_one, given_o
 abbrev pub registered_told : ℕ → List ℕ → ToolkitState → Passed
 registered_told code body state = in_turn (told_one code body) (targets state.rows code) state
 
+-- the profile is the last one that came, as far as it is looked at: its first eight bytes
 abbrev pub with_profile : ToolkitState → List ℕ → ToolkitState
 with_profile state bytes = with_session state (record state.session { profile = Some (consulted bytes) })
 
+-- TERMINAL PROFILE (11.2.1): the profile is taken, and the applets that are registered for it run; then idle applets catch up, and the next command
+-- goes out
 unfoldable pub profiled : List ℕ → ToolkitState → Passed
 profiled bytes state = before (registered_told PROFILE_DOWNLOAD bytes (with_profile state bytes)) driven
 
+-- STATUS as an event: the applets that are registered for it run; then idle applets catch up, and the next command goes out
 unfoldable pub polled : ToolkitState → Passed
 polled state = before (registered_told STATUS_COMMAND [] state) driven
 
@@ -55,12 +59,15 @@ selected rows item = map (λ row. row.shelf) (filter (λ row. has_text row && (i
 abbrev pub holders : Owners → ℕ → List ℕ
 holders timers timer = option_to_list (option_map (λ shelf. shelf.0) (owner_of timers timer))
 
+-- an item of the menu triggers its applet, call control and an event those that are registered for them, a timer its owner; each is told what the
+-- envelope says
 abbrev pub trigger_of : List Registration → Owners → Envelope → Trigger
 trigger_of rows timers (Envelopes.Menu item) = record { shelves = selected rows item; code = MENU_SELECTION; body = item ∷ [] }
 trigger_of rows timers (Envelopes.CallControl address) = record { shelves = targets rows CALL_CONTROL; code = CALL_CONTROL; body = address }
 trigger_of rows timers (Envelopes.Event code body) = record { shelves = targets rows code; code = code; body = body }
 trigger_of rows timers (Envelopes.Timer timer) = record { shelves = holders timers timer; code = TIMER_EXPIRATION; body = timer ∷ [] }
 
+-- what the envelope triggers in this state
 abbrev pub triggered_by : Envelope → ToolkitState → Trigger
 triggered_by envelope state = trigger_of state.rows state.session.timers envelope
 
@@ -68,6 +75,7 @@ triggered_by envelope state = trigger_of state.rows state.session.timers envelop
 abbrev pub late_places : ℕ
 late_places = 16
 
+-- the envelope is call control
 abbrev pub is_call : Envelope → Bool
 is_call (Envelopes.CallControl address) = true
 is_call _ = false
@@ -86,9 +94,11 @@ is_busy envelope state =
 abbrev pub is_reported_once : ℕ → Bool
 is_reported_once code = code == USER_ACTIVITY || code == IDLE_SCREEN
 
+-- the event is no longer one of those that the handset was told to report
 abbrev pub forgetting : ℕ → SessionState → SessionState
 forgetting code session = record session { announced = record session.announced { events = filter (λ other. not (other == code)) session.announced.events } }
 
+-- once the user's activity or the idle screen was reported, the handset has to be asked again
 abbrev pub reported : Envelope → ToolkitState → ToolkitState
 reported (Envelopes.Event code body) state = if is_reported_once code then with_session state (forgetting code state.session) else state
 reported _ state = state
@@ -99,9 +109,11 @@ triggered envelope state =
     let trigger = triggered_by envelope state in
     in_turn (given_one trigger.code trigger.body) trigger.shelves (reported envelope state)
 
+-- ENVELOPE (11.2.2): the applets that it triggers run or are told late; then idle applets catch up, and the next command goes out
 unfoldable pub enveloped : Envelope → ToolkitState → Passed
 enveloped envelope state = before (triggered envelope state) driven
 
+-- the answer to call control that is the act of this turn, if it is one
 abbrev pub answer_in : ShelfTurn → Option Bool
 answer_in turn = by_act turn.act where
   by_act : Act → Option Bool
@@ -112,6 +124,7 @@ answer_in turn = by_act turn.act where
 abbrev pub last_answer : List Happening → Option Bool
 last_answer log = last_or None (filter_map answer_in (turns log))
 
+-- the data of the answer: 01 00, not allowed, or 00 00, allowed, also where no applet answered (ETSI TS 102 223, 7.3.1.6)
 abbrev pub call_data_of : Option Bool → List ℕ
 call_data_of (Some false) = 0x01 ∷ 0x00 ∷ []
 call_data_of _ = 0x00 ∷ 0x00 ∷ []
@@ -122,6 +135,7 @@ call_data envelope state = if is_call envelope then call_data_of (last_answer (t
 
 -- ---- FETCH and TERMINAL RESPONSE
 
+-- the outstanding command, if there is one, and if the handset has fetched it or has not, as is asked
 abbrev pub if_fetched : Bool → Option Outstanding → Option Outstanding
 if_fetched is_fetched None = None
 if_fetched is_fetched (Some out) = if is_fetched then (if out.is_fetched then Some out else None) else (if out.is_fetched then None else Some out)
@@ -134,6 +148,7 @@ unfetched session = if_fetched false session.out
 abbrev pub unanswered : SessionState → Option Outstanding
 unanswered session = if_fetched true session.out
 
+-- the bytes of a command that is outstanding, with its number
 abbrev pub command_bytes : Outstanding → List ℕ
 command_bytes out = spelled out.command out.number
 
@@ -141,9 +156,11 @@ command_bytes out = spelled out.command out.number
 abbrev pub pending : SessionState → Option ℕ
 pending session = option_map (λ out. length (command_bytes out)) (unfetched session)
 
+-- the same command, fetched
 abbrev pub as_fetched : Outstanding → Outstanding
 as_fetched out = record out { is_fetched = true }
 
+-- FETCH (11.2.3): the outstanding command is fetched
 unfoldable pub fetched : Outstanding → ToolkitState → Passed
 fetched out state = record {
   state = with_session state (record state.session { out = Some (as_fetched out) });
@@ -159,12 +176,15 @@ abbrev pub resumed : Option ℕ → Reply → ToolkitState → Passed
 resumed None reply state = unmoved state
 resumed (Some shelf) reply state = run_of_row shelf (Response reply.result reply.item reply.text) true state
 
+-- no command is outstanding
 abbrev pub with_nothing_out : ToolkitState → ToolkitState
 with_nothing_out state = with_session state (record state.session { out = None })
 
+-- the command is outstanding no more, and the applet that sent it is told the response
 unfoldable pub answered : Outstanding → Reply → ToolkitState → Passed
 answered out reply state = noting (Responded out reply ∷ []) (resumed out.owner reply (with_nothing_out state))
 
+-- TERMINAL RESPONSE (11.2.4): the command is answered; then idle applets catch up, and the next command goes out
 unfoldable pub responded : Outstanding → Reply → ToolkitState → Passed
 responded out reply state = before (answered out reply state) driven
 
@@ -179,6 +199,7 @@ registering row state =
       log = Committed rows ∷ [];
     }
 
+-- INSTALL: the applet is registered and wakes; then idle applets catch up, and the next command goes out
 unfoldable pub installed : Registration → ToolkitState → Passed
 installed row state = before (registering row state) driven
 
@@ -195,6 +216,7 @@ unregistering shelf state =
       log = Committed rows ∷ [];
     }
 
+-- DELETE: the applet is registered no more and is gone; then idle applets catch up, and the next command goes out
 unfoldable pub delete_carried : ℕ → ToolkitState → Passed
 delete_carried shelf state = before (unregistering shelf state) driven
 
@@ -205,6 +227,7 @@ abbrev pub woken_mind : Option Registration → AppletState → AppletState
 woken_mind None mind = mind
 woken_mind (Some row) mind = fresh mind.kind row.kept
 
+-- the box of a shelf: an empty one stays empty, and in another the applet wakes if it is registered
 abbrev pub woken_box : List Registration → ℕ × Option AppletState → Option AppletState
 woken_box rows box = option_map (woken_mind (row_on rows box.0)) box.1
 

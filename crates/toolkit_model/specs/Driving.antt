@@ -22,9 +22,11 @@ use Rattle.toolkit_model.specs.Running.{putting_out, run_of_row}
 abbrev pub is_idle : List Sent → ℕ → Bool
 is_idle asked shelf = not (list_any (λ sent. sent.shelf == shelf) asked)
 
+-- the same, with another session
 abbrev pub with_session : ToolkitState → SessionState → ToolkitState
 with_session state session = record state { session = session }
 
+-- the applet of the trigger's shelf runs, with the event that it was triggered by
 abbrev pub running : LateTrigger → ToolkitState → Passed
 running trigger state = run_of_row trigger.shelf (Event trigger.code trigger.body) false state
 
@@ -42,6 +44,7 @@ abbrev pub given_if : Bool → LateTrigger → ToolkitState → Passed
 given_if true trigger state = running trigger state
 given_if false trigger state = kept_late trigger state
 
+-- the trigger of the applet on a shelf, by an event with its code and what is told of it
 abbrev pub trigger_for : ℕ → List ℕ → ℕ → LateTrigger
 trigger_for code body shelf = record { shelf = shelf; code = code; body = body }
 
@@ -56,6 +59,7 @@ given_one code body shelf state =
 
 -- ---- late triggers
 
+-- what was found, with this trigger before the others
 abbrev pub behind : LateTrigger → LateTrigger × List LateTrigger → LateTrigger × List LateTrigger
 behind trigger found = (found.0, trigger ∷ found.1)
 
@@ -77,7 +81,7 @@ caught_up (suc count) state = catching (caught_up count) state (first_idle (asks
 
 -- ---- what the card itself sends
 
--- the events that a handset can report (ETSI TS 102 223, 8.25), ascending
+-- the events of ETSI TS 102 223, 8.25, that this card asks a handset to report, ascending
 abbrev pub download_codes : List ℕ
 download_codes = MT_CALL ∷ CALL_CONNECTED ∷ CALL_DISCONNECTED ∷ LOCATION_STATUS ∷ USER_ACTIVITY ∷ IDLE_SCREEN ∷ LANGUAGE_SELECTION ∷ DATA_AVAILABLE ∷ CHANNEL_STATUS ∷ []
 
@@ -85,12 +89,15 @@ download_codes = MT_CALL ∷ CALL_CONNECTED ∷ CALL_DISCONNECTED ∷ LOCATION_S
 abbrev pub events_for : List ℕ → List Registration → List ℕ
 events_for profile rows = filter (λ code. list_any (is_for code) rows && allowed_event profile code) download_codes
 
+-- the same identifier and the same text
 abbrev pub is_same_item : Item → Item → Bool
 is_same_item a b = a.id == b.id && pointwise nat_eq a.text b.text
 
+-- the title of the card's menu: `Menu`
 abbrev pub menu_title : List ℕ
 menu_title = codes "Menu"
 
+-- the interval between two STATUS that the card asks for: 30 seconds
 abbrev pub half_a_minute : ℕ
 half_a_minute = 30
 
@@ -103,16 +110,19 @@ or_else (Some first) second = Some first
 abbrev pub if_allowed : List ℕ → Bool → Proactive → Option Proactive
 if_allowed profile is_due command = if is_due && allowed profile command then Some command else None
 
+-- SET UP EVENT LIST, where the events for the rows are other ones than the handset was told
 abbrev pub event_list_wanted : List ℕ → List Registration → Announced → Option Proactive
 event_list_wanted profile rows announced =
     let events = events_for profile rows in
     if_allowed profile (not (pointwise nat_eq events announced.events)) (SetUpEventList events)
 
+-- SET UP MENU, where the items of the rows are other ones than the handset was told
 abbrev pub menu_wanted : List ℕ → List Registration → Announced → Option Proactive
 menu_wanted profile rows announced =
     let items = menu_of rows in
     if_allowed profile (not (pointwise is_same_item items announced.menu)) (SetUpMenu menu_title items)
 
+-- POLL INTERVAL, where a row is registered for STATUS and the handset was not told to poll
 abbrev pub polling_wanted : List ℕ → List Registration → Announced → Option Proactive
 polling_wanted profile rows announced =
     if_allowed profile (list_any (is_for STATUS_COMMAND) rows && not announced.polls) (PollInterval half_a_minute)
@@ -132,6 +142,7 @@ announcing _ announced = announced
 
 -- ---- what becomes outstanding
 
+-- the first command that waits becomes outstanding, if one waits
 abbrev pub front_out : List Sent → SessionState → SessionState
 front_out [] session = session
 front_out (sent ∷ others) session = putting_out (Some sent.shelf) sent.command (record session { waiting = others })
@@ -146,6 +157,7 @@ abbrev pub filled : Option Outstanding → List Registration → SessionState �
 filled (Some out) rows session = session
 filled None rows session = next_out (wanted session.profile rows session.announced) session
 
+-- where no command is outstanding, the next one goes out
 unfoldable pub with_next_command : ToolkitState → ToolkitState
 with_next_command state = with_session state (filled state.session.out state.rows state.session)
 

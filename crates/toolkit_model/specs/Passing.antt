@@ -36,6 +36,7 @@ pub record Passed : Type 0 where
   pub state : ToolkitState
   pub log : List Happening
 
+-- the state stays as it is, and nothing is noted
 abbrev pub unmoved : ToolkitState → Passed
 unmoved state = record { state = state; log = [] }
 
@@ -52,6 +53,7 @@ abbrev pub in_turn : {X : Type 0} → (X → ToolkitState → Passed) → List X
 in_turn step [] state = unmoved state
 in_turn step (x ∷ others) state = before (step x state) (in_turn step others)
 
+-- the rows that were committed, where that is what is noted
 abbrev pub rows_in : Happening → Option (List Registration)
 rows_in (Committed rows) = Some rows
 rows_in _ = None
@@ -60,6 +62,7 @@ rows_in _ = None
 abbrev pub passed_rows : List Happening → List (List Registration)
 passed_rows log = filter_map rows_in log
 
+-- the turn of an applet, where that is what is noted
 abbrev pub turn_in : Happening → Option ShelfTurn
 turn_in (Turned turn) = Some turn
 turn_in _ = None

@@ -20,6 +20,7 @@ abbrev pub unless_missing : {A B : Type 0} → Option A → RowFault → (A → 
 unless_missing None fault next = Err fault
 unless_missing (Some x) fault next = next x
 
+-- the row is that of this shelf
 abbrev pub is_on : ℕ → Registration → Bool
 is_on shelf row = row.shelf == shelf
 
@@ -59,9 +60,11 @@ installed_row state kind shelf priority content =
 abbrev pub deleted_row : List Registration → ℕ → Bool → Result Registration RowFault
 deleted_row rows shelf is_idle = unless_missing (row_on rows shelf) NoRow (λ row. faulty_if (not is_idle) NotIdle (Ok row))
 
+-- the rows without that of this shelf
 abbrev pub without_row : List Registration → ℕ → List Registration
 without_row rows shelf = filter (λ row. not (is_on shelf row)) rows
 
+-- the row of a shelf is registered for a code
 abbrev pub is_registered : List Registration → ℕ → ℕ → Bool
 is_registered rows shelf code = option_map_or (is_for code) (row_on rows shelf) false
 
@@ -80,12 +83,15 @@ registers rows shelf code =
 abbrev pub deregisters : List Registration → ℕ → ℕ → Result Bool RowFault
 deregisters rows shelf code = faulty_if (not (is_code code)) BadData (Ok (is_registered rows shelf code))
 
+-- the rows, of which that of the shelf is registered for one code more
 abbrev pub with_code : List Registration → ℕ → ℕ → List Registration
 with_code rows shelf code = with_changed rows shelf (λ row. record row { codes = sorted_codes (code ∷ row.codes) })
 
+-- the rows, of which that of the shelf is registered for one code less
 abbrev pub without_code : List Registration → ℕ → ℕ → List Registration
 without_code rows shelf code = with_changed rows shelf (λ row. record row { codes = filter (λ other. not (other == code)) row.codes })
 
+-- the rows, of which that of the shelf keeps these bytes
 abbrev pub with_kept : List Registration → ℕ → List ℕ → List Registration
 with_kept rows shelf bytes = with_changed rows shelf (λ row. record row { kept = bytes })
 
@@ -93,5 +99,6 @@ with_kept rows shelf bytes = with_changed rows shelf (λ row. record row { kept 
 abbrev pub item_of : Registration → Item
 item_of row = record { id = row.shelf + 1; text = row.text }
 
+-- the items of the card's menu: those of all rows with a text, in the order of the rows
 abbrev pub menu_of : List Registration → List Item
 menu_of rows = map item_of (filter has_text rows)

@@ -41,6 +41,7 @@ is_cards_own (SetUpEventList events) = true
 is_cards_own (PollInterval seconds) = true
 is_cards_own _ = false
 
+-- the timer is that of the applet on this shelf
 abbrev pub is_held_by : Owners → ℕ → ℕ → Bool
 is_held_by timers shelf timer = option_map_or (λ owner. owner.0 == shelf) (owner_of timers timer) false
 
@@ -76,12 +77,15 @@ pub record Carried : Type 0 where
   pub is_committed : Bool
   pub tells : Option Stimulus
 
+-- the run ends, and nothing was committed
 abbrev pub ends : Works → Carried
 ends works = record { works = works; is_committed = false; tells = None }
 
+-- the applet is told this, and nothing was committed
 abbrev pub answers : Stimulus → Works → Carried
 answers stimulus works = record { works = works; is_committed = false; tells = Some stimulus }
 
+-- these rows are committed, and the applet is told that its act was carried out
 abbrev pub commits : Works → List Registration → Carried
 commits works rows = record { works = record works { rows = rows }; is_committed = true; tells = Some Went }
 
@@ -91,10 +95,14 @@ changing works rows (Ok true) = commits works rows
 changing works rows (Ok false) = answers Went works
 changing works rows (Err fault) = answers Refused works
 
+-- this free timer is the applet's then, and it is told so; where none is free it is refused
 abbrev pub taking : ℕ → Works → Option ℕ → Carried
 taking shelf works (Some timer) = answers (Timer timer) (record works { timers = given_to (record { 0 = shelf }) works.timers (Some timer) })
 taking shelf works None = answers Refused works
 
+-- What each act comes to. Done ends the run, and so does a command that is admitted. At most 32 bytes are kept; the codes of the row change as
+-- `registers` and `deregisters` say; the smallest free timer is given, and one of its own taken back; an answer to call control is just taken. What
+-- may not be done is refused.
 abbrev pub carried : Setting → Act → Works → Carried
 carried at Done works = ends works
 carried at (Send command) works = if is_admitted at works.timers command then ends works else answers Refused works
@@ -115,6 +123,7 @@ pub record Ran : Type 0 where
   pub sent : Option Proactive
   pub log : List Happening
 
+-- the commit of the act, if there was one
 abbrev pub committed : Carried → List Happening
 committed done = if done.is_committed then Committed done.works.rows ∷ [] else []
 
@@ -123,10 +132,12 @@ abbrev pub noted : Setting → Stimulus → Act → Owners → Carried → List 
 noted at stimulus does timers done =
     Turned (record { shelf = at.shelf; stimulus = stimulus; act = does; is_admitted = is_some (admitted at timers does) }) ∷ committed done
 
+-- the run goes on where the applet is told something, and else is over
 abbrev pub going_on : Works → Option Proactive → (Stimulus → Works → Ran) → Option Stimulus → Ran
 going_on works sent next None = record { works = works; sent = sent; log = [] }
 going_on works sent next (Some stimulus) = next stimulus works
 
+-- this was noted before the run
 abbrev pub logged : List Happening → Ran → Ran
 logged log ran = record ran { log = log ++ ran.log }
 
@@ -136,6 +147,7 @@ carrying at stimulus does works next =
     let done = carried at does works in
     logged (noted at stimulus does works.timers done) (going_on done.works (admitted at works.timers does) next done.tells)
 
+-- the bytes that the card keeps for the applet of a shelf; none where it is not registered
 abbrev pub kept_on : List Registration → ℕ → List ℕ
 kept_on rows shelf = option_map_or (λ row. row.kept) (row_on rows shelf) []
 
@@ -150,14 +162,17 @@ run_on (suc fuel) at stimulus works =
     let made = act works.mind stimulus in
     carrying at stimulus made.does (record works { mind = made.next }) (run_on fuel at)
 
+-- so many acts a run has at most
 abbrev pub most_acts : ℕ
 most_acts = 32
 
 -- ---- from state to state
 
+-- the mind of the applet on a shelf, if there is one
 abbrev pub mind_on : List (Option AppletState) → ℕ → Option AppletState
 mind_on minds shelf = slice_index_or minds shelf None
 
+-- this mind on the shelf, or none
 abbrev pub with_mind : List (Option AppletState) → ℕ → Option AppletState → List (Option AppletState)
 with_mind minds shelf mind = slice_set minds shelf mind
 
@@ -178,13 +193,16 @@ sending shelf true (Some command) session = putting_out (Some shelf) command ses
 sending shelf false (Some command) session =
     record session { waiting = session.waiting ++ record { shelf = shelf; command = command } ∷ [] }
 
+-- the stimulus is call control
 abbrev pub begins_call : Stimulus → Bool
 begins_call (Event code body) = code == CALL_CONTROL
 begins_call _ = false
 
+-- where a run goes on that begins with this stimulus: on this shelf, with the profile of the session
 abbrev pub setting_of : ℕ → Stimulus → ToolkitState → Setting
 setting_of shelf stimulus state = record { shelf = shelf; profile = state.session.profile; in_call = begins_call stimulus }
 
+-- what a run can change, as it stands before the run
 abbrev pub works_of : AppletState → ToolkitState → Works
 works_of mind state = record { rows = state.rows; timers = state.session.timers; mind = mind }
 
@@ -199,6 +217,7 @@ ended_in shelf is_resumed state ran = record {
   log = ran.log;
 }
 
+-- the run of this mind, of at most 32 acts; without one nothing changes
 abbrev pub run_of_mind : ℕ → Stimulus → Bool → ToolkitState → Option AppletState → Passed
 run_of_mind shelf stimulus is_resumed state None = unmoved state
 run_of_mind shelf stimulus is_resumed state (Some mind) =

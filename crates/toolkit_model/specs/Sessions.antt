@@ -46,6 +46,7 @@ pub record SessionState : Type 0 where
 abbrev pub nothing_announced : Announced
 nothing_announced = record { events = []; menu = []; polls = false }
 
+-- nobody holds any of the eight timers
 abbrev pub free_timers : Owners
 free_timers = replicate 8 None
 

@@ -31,6 +31,8 @@ export const DELETE_FILE = 0xe4;
 export const RESIZE_FILE = 0xd4;
 const OWN_CLASS = 0xf0;
 export const GET_RESPONSE = 0xc0;
+// the bytes of a command's header
+const SHORTEST = 4;
 const VERIFY_PIN = 0x20;
 const CHANGE_PIN = 0x24;
 export const DISABLE_PIN = 0x26;
@@ -50,10 +52,26 @@ export class Apdu {
         const rest = bytes.slice(4);
         const [sent] = rest;
         const hasData = rest.length > 1;
+        [this.size, this.lc] = [bytes.length, sent];
         this.isCommand = bytes.length >= 4 && (!hasData || (sent > 0 && (rest.length === 1 + sent || rest.length === 2 + sent)));
         [this.cla, this.ins, this.p1, this.p2] = bytes;
         this.data = hasData ? rest.slice(1, 1 + sent) : new Uint8Array();
         this.le = hasData ? rest[1 + sent] : sent;
+    }
+
+    // Why the bytes are no command, in words; null where they are one.
+    get fault() {
+        if (this.isCommand) {
+            return null;
+        }
+        if (this.size < SHORTEST) {
+            return `${amount(this.size)}, and a command has at least ${SHORTEST}`;
+        }
+        if (this.lc === 0) {
+            return "it has 00 in the place of Lc, as lengths of two bytes begin, which no card here takes";
+        }
+        const count = this.size - SHORTEST - 1;
+        return `Lc says ${this.lc}, and ${count} ${count === 1 ? "byte follows" : "bytes follow"}`;
     }
 
     // Whether its class is the one of INSTALL and DELETE.
@@ -123,7 +141,7 @@ function recordPlace(apdu) {
 // A command in one line.
 export function titleOf(apdu) {
     if (!apdu.isCommand) {
-        return "no command: the bytes have no short form";
+        return `no command: ${apdu.fault}`;
     }
     const name = instructionName(apdu.ins, apdu.cla);
     if (name === null) {

@@ -9,6 +9,8 @@ import { keyName, standardFile } from "./names.js";
 
 const STRUCTURES = { t: "transparent", l: "linear fixed", c: "cyclic" };
 const LONGEST = 240;
+// nothing unblocks the administrator's key
+const ADM1 = 0x0a;
 
 function factsOf(file) {
     const facts = [file.structure === "t" ? `${STRUCTURES.t}, ${plural(file.size, "byte")}`
@@ -98,9 +100,9 @@ export class FilesPane {
     }
 
     pin(pin) {
+        const unblocked = pin.key === ADM1 ? "can't be unblocked" : `unblocked by ${pinValue(pin.unblock)}, ${pin.unblockTries} tries left`;
         return element("li", { class: this.classOf(`pin ${pin.key}`) }, element("span", { class: "name" }, keyName(pin.key)), " ",
-            element("span", { class: "facts" }, `${pin.enabled ? "enabled" : "disabled"}, ${pinValue(pin.value)}, ${pin.tries} tries left; unblocked by `
-                + `${pinValue(pin.unblock)}, ${pin.unblockTries} tries left`));
+            element("span", { class: "facts" }, `${pin.enabled ? "enabled" : "disabled"}, ${pinValue(pin.value)}, ${pin.tries} tries left; ${unblocked}`));
     }
 
     row(row) {

@@ -72,9 +72,12 @@ export function standardFile(path, usim) {
     return places(path.slice(0, -1), usim).map((place) => found.find((entry) => entry.in.includes(place))).find(Boolean);
 }
 
-// A path with its standard name after it.
+// A path with its standard name after it. A file of the MF without one has the MF before it: else it would look like an identifier alone.
 export function shownPath(path, usim) {
     const text = path.length ? path.join("/") : "3F00";
     const entry = standardFile(path, usim);
-    return entry ? `${text} ${entry.name}` : text;
+    if (entry) {
+        return `${text} ${entry.name}`;
+    }
+    return path.length === 1 ? `3F00/${text}` : text;
 }
