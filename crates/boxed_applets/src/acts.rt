@@ -1,4 +1,5 @@
-//! What applets do. An act is large: each is made in a function of its own, so that a step pays for the one that it does.
+//! What applets do. An act is large: each is made in a function of its own, so that a step pays for the one that it does. An applet of one's
+//! own calls these by name, as docs/APPLETS.md has them.
 ghost use Rattle.std.specs.Prelude.{◌≡◌, ◌≤◌, length, take};
 ghost use Rattle.applet_trait.specs.Tables.{show};
 ghost use Rattle.applet_trait.specs.declared.numbers.TheConstants.{START};

@@ -1,4 +1,5 @@
-//! The first piece of a commit's writes. They are large, so their place is the caller's.
+//! The first piece of a commit's writes. They are large, so their place is the caller's. There is always room for a first piece, so these
+//! functions answer nothing; who commits adds the pieces that come with it.
 ghost use Rattle.std.specs.Prelude.{◌≡◌, ◌≤◌, ◌<◌, [], ◌∷◌, length};
 ghost use Rattle.layout_entries.specs.Spelling.{node_part, pin_part, row_part};
 

@@ -1,4 +1,5 @@
-//! What may be asked of a store of 65,536 bytes.
+//! What may be asked of a store of 65,536 bytes. `stored` asks here before it calls a store, since a row may name any place: these say at run
+//! time what the store asks for, and `Full` is also the answer to what may not be asked.
 ghost use Rattle.std.specs.Prelude.{◌≡◌, ◌<◌, true, length, All, IfOk, OnOk};
 ghost use Rattle.store_form.specs.Pieces.{IsUsable, IsUsablePiece};
 

@@ -1,3 +1,4 @@
+-- The slots that were passed are spelled, each in its 20 bytes, of 64 in all.
 use Rattle.std.proofs.Common.{◌≡◌, ℕ, ◌*◌, ◌<◌, length, slice_index_or}
 use Rattle.card_state.specs.Blank.{absent_pin}
 use Rattle.card_state.specs.Decoding.{bytes_at}

@@ -1,3 +1,4 @@
+-- What `named_pin_command` says of the command that is named is said of the one that the instruction byte names.
 use Rattle.std.proofs.Common.{OnOk, subst, ap, ◌∙◌}
 use Rattle.apdu_form.specs.Model.{Apdu}
 use Rattle.card_state.specs.States.{pins_of}

@@ -1,3 +1,4 @@
+-- The walk stands at each frame's place in the line, and the length that is read there is the frame's own, so no sum is too great.
 use Rattle.std.proofs.Common.{arith, subst, sym, ap, ◌∙◌, ◌≡◌, ◌+◌, ◌^◌, ◌≤◌, ◌<◌, [], length, take, drop, get_or, ℕ, List}
 use Rattle.frame_store.specs.Model.{Frames, AreKept, length_in, laid, in_line}
 use Rattle.frame_store.proofs.InLineLemmas.{in_line-none}
