@@ -318,10 +318,7 @@ fn command(digits: &[u8], line: &mut ScriptLine) -> Option<()>
     ensures { ReadsInto (IsCommandLine digits.now) result line.new }
 {
     match line {
-        ScriptLine::Apdu(bytes) => {
-            bytes.clear();
-            read_bytes(digits, bytes)
-        }
+        ScriptLine::Apdu(bytes) => read_bytes(digits, bytes),
         _ => first_command(digits, line),
     }
 }
@@ -355,10 +352,7 @@ fn transfer(digits: &[u8], line: &mut ScriptLine) -> Option<()>
     ensures { ReadsInto (IsTransferLine digits.now) result line.new }
 {
     match line {
-        ScriptLine::Tpdu(bytes) => {
-            bytes.clear();
-            read_bytes(digits, bytes)
-        }
+        ScriptLine::Tpdu(bytes) => read_bytes(digits, bytes),
         _ => first_transfer(digits, line),
     }
 }

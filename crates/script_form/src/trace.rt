@@ -110,7 +110,9 @@ pub fn write_command<W: Sink>(sink: &mut W, apdu: &[u8]) -> Result<(), Failed>
 {
     // Most lines show few bytes, and are put together in a short buffer, since all of a buffer is filled with zeros before and raised after.
     match apdu.len() {
-        0..=23 => put_command::<50, W>(sink, apdu),
+        0..=7 => put_command::<18, W>(sink, apdu),
+        8..=15 => put_command::<34, W>(sink, apdu),
+        16..=23 => put_command::<50, W>(sink, apdu),
         24..=31 => put_command::<66, W>(sink, apdu),
         _ => put_command::<LONGEST, W>(sink, apdu),
     }
@@ -201,8 +203,26 @@ fn fill_digits(text: &mut [u8], body: &[u8], status: &[u8]) -> usize
     end + 1
 }
 
+/// So many bytes at the front are written without a loop, where there are as many.
+const FRONT: usize = 8;
+
 /// Writes two digits for each byte over `digits`, the letters in lower case.
 fn put_digits(bytes: &[u8], digits: &mut [u8])
+    requires { length digits.old ≡ 2 * length bytes.now }
+    ensures { digits.new ≡ encode_lower bytes.now }
+{
+    match bytes.split_at_checked(FRONT) {
+        Some((front, rest)) => {
+            let (first, others) = digits.split_at_mut(2 * FRONT);
+            encode_over(front, first);
+            encode_over(rest, others);
+        }
+        None => encode_over(bytes, digits),
+    }
+}
+
+/// Writes the digits of any number of bytes.
+fn encode_over(bytes: &[u8], digits: &mut [u8])
     requires { length digits.old ≡ 2 * length bytes.now }
     ensures { digits.new ≡ encode_lower bytes.now }
 {

@@ -1,5 +1,5 @@
 //! The values of a script line, each read from one word.
-ghost use Rattle.std.specs.Prelude.{◌≡◌, ◌≤◌, ◌<◌, ◌/◌, ◌^◌, ◌↔◌, [], length, max, IsSome, IfNone, IfSome};
+ghost use Rattle.std.specs.Prelude.{◌≡◌, ◌≤◌, ◌<◌, ◌/◌, ◌^◌, ◌↔◌, length, IsSome, IfSome};
 ghost use Rattle.std.specs.Char.{is_ascii_digit};
 ghost use Rattle.std.specs.List.{list_all};
 ghost use Rattle.std.specs.Str.Parse.{AllDigits, digits_value};
@@ -7,7 +7,7 @@ ghost use Rattle.script_form.specs.Reads.{Reads, ReadsInto};
 ghost use Rattle.script_form.specs.Values.{IsByte, IsDialled, IsHex, IsNumber, IsSized, IsTyped, is_printable as is_shown};
 
 use hex::{FromHex, decode_to_slice};
-use uicc_types::{ByteList, Full, Octets};
+use uicc_types::{ByteList, Octets};
 
 /// A number from `least` to `most`, which has at most nine digits.
 pub fn number_of(word: &[u8], least: u32, most: u32) -> Option<u32>
@@ -99,73 +99,53 @@ pub fn bytes_of<const N: usize>(word: &[u8]) -> Option<ByteList<N>>
     Some(bytes)
 }
 
-/// Reads one to `N` bytes into a list that is empty before, and stays so where they can't be read. Most lines pass through it, so it
-/// is inlined.
+/// Reads one to `N` bytes into a list, in place of those that it has. Where they can't be read it holds any bytes. Most lines pass through
+/// it, so it is inlined.
 #[inline(always)]
 pub fn read_bytes<const N: usize>(word: &[u8], bytes: &mut ByteList<N>) -> Option<()>
-    requires { bytes.old ≡ [] }
-    ensures read { ReadsInto (IsHex N word.now) result bytes.new }
-    ensures none { IfNone result (bytes.new ≡ []) }
+    ensures { ReadsInto (IsHex N word.now) result bytes.new }
 {
     let count = word.len() / 2;
     if count == 0 || count > N {
         return None;
     }
+    bytes.resize(count);
+    let places = bytes.as_mut_slice();
     if count == NO_DATA {
-        read_places::<NO_DATA, N>(word, count, bytes)
+        read_places::<N>(word, places)
     } else {
-        read_others(word, count, bytes)
+        read_others::<N>(word, places)
     }
 }
 
 /// The bytes of a command that has no data and asks for some (ISO 7816-4, 5.1): four of its header, and Le. Many words have as many, and
-/// their number is known where they are read.
+/// are read without a loop.
 const NO_DATA: usize = 5;
 
-/// Reads `count` bytes, any number of them, into a list that is empty before, and stays so where they can't be read.
+/// Reads any other number of bytes.
 #[inline(never)]
-fn read_others<const N: usize>(word: &[u8], count: usize, bytes: &mut ByteList<N>) -> Option<()>
-    requires filled { 1 ≤ count }
-    requires fits { count ≤ N }
-    requires count { count ≡ length word.now / 2 }
-    requires empty { bytes.old ≡ [] }
-    ensures read { ReadsInto (IsHex N word.now) result bytes.new }
-    ensures none { IfNone result (bytes.new ≡ []) }
+fn read_others<const N: usize>(word: &[u8], places: &mut [u8]) -> Option<()>
+    requires filled { 1 ≤ length places.old }
+    requires fits { length places.old ≤ N }
+    requires count { length places.old ≡ length word.now / 2 }
+    ensures read { ReadsInto (IsHex N word.now) result places.new }
+    ensures size { length places.new ≡ length places.old }
 {
-    if count <= FEW {
-        read_places::<FEW, N>(word, count, bytes)
-    } else {
-        read_places::<N, N>(word, count, bytes)
-    }
+    read_places::<N>(word, places)
 }
 
-/// Most words have few bytes. A buffer is filled with zeros before it is used, so such a word is read in a short one.
-const FEW: usize = 32;
-
-/// Reads `count` bytes by a buffer of `M` bytes into a list that is empty before, and stays so where they can't be read.
+/// Reads a byte into each of the places, at most `N`.
 #[inline(always)]
-fn read_places<const M: usize, const N: usize>(
-    word: &[u8],
-    count: usize,
-    bytes: &mut ByteList<N>,
-) -> Option<()>
-    requires filled { 1 ≤ count }
-    requires fits { (count ≤ M) × (count ≤ N) }
-    requires size { M ≤ max FEW N }
-    requires count { count ≡ length word.now / 2 }
-    requires empty { bytes.old ≡ [] }
-    ensures read { ReadsInto (IsHex N word.now) result bytes.new }
-    ensures none { IfNone result (bytes.new ≡ []) }
+fn read_places<const N: usize>(word: &[u8], places: &mut [u8]) -> Option<()>
+    requires filled { 1 ≤ length places.old }
+    requires fits { length places.old ≤ N }
+    requires count { length places.old ≡ length word.now / 2 }
+    ensures read { ReadsInto (IsHex N word.now) result places.new }
+    ensures size { length places.new ≡ length places.old }
 {
-    let mut places = [0; M];
-    let read = &mut places[..count];
-    match decode_to_slice(word, read) {
-        Ok(()) => {}
-        Err(_) => return None,
-    }
-    match bytes.append(read) {
+    match decode_to_slice(word, places) {
         Ok(()) => Some(()),
-        Err(Full) => unreachable!(),
+        Err(_) => None,
     }
 }
 

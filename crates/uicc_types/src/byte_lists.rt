@@ -1,5 +1,5 @@
 //! Lists of bytes of a bounded length, kept in place: they never take memory.
-ghost use Rattle.std.specs.Prelude.{◌≡◌, ◌+◌, ◌≤◌, ◌<◌, ◌↔◌, List, ℕ, [], ◌∷◌, ◌++◌, length, IsOk, OnOk, OnErr};
+ghost use Rattle.std.specs.Prelude.{◌≡◌, ◌+◌, ◌-◌, ◌≤◌, ◌<◌, ◌↔◌, List, ℕ, [], ◌∷◌, ◌++◌, length, replicate, take, IsOk, OnOk, OnErr};
 
 use crate::limits::Full;
 use arrayvec::ArrayVec;
@@ -37,6 +37,9 @@ impl<const N: usize> Model for ByteList<N> {
 }
 
 impl<const N: usize> ByteList<N> {
+    ghost use Rattle.std.specs.Borrow.{sem};
+    ghost use Rattle.uicc_types.specs.Lending.{LendsBytes};
+
     /// The empty list.
     pub fn new() -> Self
         ensures { result ≡ [] }
@@ -90,11 +93,31 @@ impl<const N: usize> ByteList<N> {
         self.bytes.as_slice()
     }
 
+    /// The bytes, to be written over.
+    pub fn as_mut_slice(&mut self) -> &mut [u8]
+        ensures* lends { sem 𝓛 (LendsBytes N.row self.entry result) }
+        ensures value { result.now ≡ self.old }
+        ensures fits { length result.now ≤ N }
+    {
+        self.bytes.as_mut_slice()
+    }
+
     /// A second list of the same bytes.
     pub fn copy(&self) -> Self
         ensures { result ≡ self.now }
     {
         Self::from_slice(self.as_slice())
+    }
+
+    /// Has `count` bytes from now on: those at its front, and zeros behind them. Where it has as many already, nothing is done.
+    pub fn resize(&mut self, count: usize)
+        requires fits { count ≤ N }
+        ensures { self.new ≡ take count self.old ++ replicate (count - length self.old) 0 }
+    {
+        self.bytes.truncate(count);
+        for _ in self.bytes.len()..count {
+            self.bytes.push(0);
+        }
     }
 
     /// Takes all bytes out.

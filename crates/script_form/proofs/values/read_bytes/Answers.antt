@@ -4,8 +4,8 @@ use Rattle.script_form.proofs.IsHexLemmas.{length-hex}
 use Rattle.script_form.proofs.values.read_bytes.Goals as goal
 use Rattle.script_form.proofs.values.read_bytes.Goals.{then-count-eq0-via-then-count-eq0, then-count-eq0-via-else-count-eq0+then-count}
 
-pub returns-then-count-eq0-clause-read : goal.returns-then-count-eq0-clause-read
-returns-then-count-eq0-clause-read g c = λ bytes hex.
+pub returns-then-count-eq0 : goal.returns-then-count-eq0
+returns-then-count-eq0 g c = λ bytes hex.
     let twice : length c.args.word.now ≡ 2 * length bytes = length-hex g.row.N c.args.word.now bytes hex in
     elim c.then-count-eq0.branch [
       | then-count-eq0-via-then-count-eq0 w ↦ absurd (omega (arith, twice, hex.some, w.if-count-eq0.true))
