@@ -109,7 +109,7 @@ impl<const N: usize> ByteList<N> {
         Self::from_slice(self.as_slice())
     }
 
-    /// Has `count` bytes from now on: those at its front, and zeros behind them. Where it has as many already, nothing is done.
+    /// Has `count` bytes from now on: those at its front, and zeros after them. Where it has as many already, nothing is done.
     pub fn resize(&mut self, count: usize)
         requires fits { count ≤ N }
         ensures { self.new ≡ take count self.old ++ replicate (count - length self.old) 0 }
