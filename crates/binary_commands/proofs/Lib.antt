@@ -1,6 +1,7 @@
 pub mod GivesLemmas
 mod OptionLemmas
 mod PinToldLemmas
+mod ReadsOnceLemmas
 mod RulingRecordLemmas
 mod SelectingLemmas
 mod UpdateInLemmas

@@ -1,4 +1,5 @@
 pub mod Commands
 pub mod Ends
+pub mod Reads
 pub mod Targets
 pub mod Telling

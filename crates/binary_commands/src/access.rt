@@ -1,11 +1,13 @@
 //! Who may do what with a file (ETSI TS 102 221, 9.2.7).
 ghost use Rattle.std.specs.Prelude.{◌≡◌, IfOk, IfSome, true};
+ghost use Rattle.uicc_types.specs.Counts.{raised_by};
 ghost use Rattle.card_state.specs.Kinds.{linear_kind};
 ghost use Rattle.card_state.specs.Memory.{IsMounted, Reads, held_by, memory};
 ghost use Rattle.file_model.specs.Files.{descriptors_of};
-ghost use Rattle.file_model.specs.Access.{granted_by, record_numbered, ruling_record, may};
+ghost use Rattle.file_model.specs.Access.{arr_found, granted_by, record_numbered, ruling_record, may};
 ghost use Rattle.file_model.specs.Holdings.{records_in};
 ghost use Rattle.file_tree.specs.Tables.{IsNumbered};
+ghost use Rattle.binary_commands.specs.Reads.{access_reads, arr_reads, record_reads};
 
 use access_rules::{Op, Verified, allowed};
 use card_commits::{contents_are_whole, read_record, tables_tell_states};
@@ -17,7 +19,7 @@ use store_form::{Store, StoreFault};
 
 /// Whether this may be done with the file where these keys' conditions are satisfied: by the record of the nearest EF_ARR that
 /// rules it, or always where there is no rule.
-#[tactic(auto, unfolding(file_model::specs::Access::may))]
+#[tactic(auto, unfolding(file_model::specs::Access::may, crate::specs::Reads::access_reads))]
 pub fn is_allowed<S: Store>(
     store: &mut S,
     loaded: &Loaded,
@@ -30,6 +32,8 @@ pub fn is_allowed<S: Store>(
         truth ≡ may state op seen.now file.now)) }
     ensures unruled { file.now.rule ≡ None → result ≡ Ok true }
     ensures reads { Reads (memory S.Store store.old loaded.now) (memory S.Store store.new loaded.now) result }
+    ensures asks { S.reads store.new
+        ≡ raised_by (access_reads (descriptors_of loaded.now) file.now) (S.reads store.old) }
 {
     match file.rule {
         Some(rule) => is_granted(store, loaded, file, rule, op, seen),
@@ -53,6 +57,8 @@ fn is_granted<S: Store>(
     ensures value { IfOk result (λ truth. IfSome (held_by S.Store store.old) (λ state.
         truth ≡ granted_by (ruling_record state file.now rule) op seen.now)) }
     ensures reads { Reads (memory S.Store store.old loaded.now) (memory S.Store store.new loaded.now) result }
+    ensures asks { S.reads store.new ≡ raised_by (arr_reads rule.number
+        (arr_found (descriptors_of loaded.now) file.now.parent rule.arr)) (S.reads store.old) }
 {
     // This call is a law, and does nothing.
     tables_tell_states();
@@ -79,6 +85,7 @@ fn is_granted_by<S: Store>(
     ensures value { IfOk result (λ truth. IfSome (held_by S.Store store.old) (λ state.
         truth ≡ granted_by (record_numbered (records_in state arr.now.number) number) op seen.now)) }
     ensures reads { Reads (memory S.Store store.old loaded.now) (memory S.Store store.new loaded.now) result }
+    ensures asks { S.reads store.new ≡ raised_by (record_reads number arr.now) (S.reads store.old) }
 {
     // This call is a law, and does nothing.
     contents_are_whole();

@@ -1,6 +1,8 @@
 //! READ BINARY and UPDATE BINARY.
-ghost use Rattle.std.specs.Prelude.{◌≡◌, ◌≢◌, ◌+◌, ◌≤◌, [], ◌==◌, ◌||◌, true, if◌then◌else◌, length, take, drop, Err, IfSome, IsOk, OnOk, OnErr};
+ghost use Rattle.std.specs.Prelude.{◌≡◌, ◌≢◌, ◌+◌, ◌≤◌, [], ◌==◌, ◌||◌, true, if◌then◌else◌, length, take, drop, Err, IfOk, IfSome, IsOk, Ok, OnOk, OnErr};
+ghost use Rattle.uicc_types.specs.Counts.{raised};
 ghost use Rattle.card_state.specs.Memory.{IsMounted, Reads, held_by, memory};
+ghost use Rattle.file_model.specs.declared.descriptors.Descriptor.{Descriptor};
 ghost use Rattle.file_model.specs.Files.{descriptors_of};
 ghost use Rattle.file_model.specs.Holdings.{bytes_in};
 ghost use Rattle.file_model.specs.Binaries.{binary_to_read, binary_to_update, read_from, binary_read, update_in, binary_updated};
@@ -9,6 +11,7 @@ ghost use Rattle.file_model.specs.Outcomes.{settled_file};
 ghost use Rattle.card_commits.specs.Performing.{Performs, StaysStill};
 ghost use Rattle.binary_commands.specs.Commands.{IsSomeCommand, IsInPlace, IsBinaryFile, IsBinaryTarget};
 ghost use Rattle.binary_commands.specs.Ends.{EndsTry, EndsWell, GivesTried, Passes};
+ghost use Rattle.binary_commands.specs.Reads.{access_reads, ReadsFile, ReadsOnce};
 ghost use Rattle.binary_commands.specs.Targets.{IsRefused};
 
 use crate::access::is_allowed;
@@ -41,6 +44,7 @@ fn read_part<S: Store>(
         body.new ≡ take count (drop offset (bytes_in state file.now.number)))) }
     ensures unread { OnErr result (body.new ≡ body.old) }
     ensures reads { Reads (memory S.Store store.old loaded.now) (memory S.Store store.new loaded.now) result }
+    ensures once { S.reads store.new ≡ raised (S.reads store.old) }
 {
     // This call is a law, and does nothing.
     contents_are_whole();
@@ -55,6 +59,7 @@ fn read_part<S: Store>(
 fn status_of_part(count: u16, length: usize) -> StatusWord
     ensures value { result ≡ (if count == 256 || length == count then StatusWord.DONE else StatusWord.END_OF_FILE) }
     ensures usual { result.0 ≢ StatusWord.MEMORY_PROBLEM.0 }
+    ensures granted { result.0 ≢ StatusWord.SECURITY_NOT_SATISFIED.0 }
 {
     if count == 256 || length == usize::from(count) {
         StatusWord::DONE
@@ -83,6 +88,9 @@ fn read_file<S: Store>(
     ensures ends { EndsTry result (memory S.Store store.old loaded.now) (memory S.Store store.new loaded.now)
         out.old out.new }
     ensures reads { Reads (memory S.Store store.old loaded.now) (memory S.Store store.new loaded.now) result }
+    ensures asks { ReadsFile result (access_reads (descriptors_of loaded.now) file.now) (S.reads store.old)
+        (S.reads store.new) }
+    ensures usual { IfOk result (λ tried. OnOk tried (out.new.status.0 ≢ StatusWord.SECURITY_NOT_SATISFIED.0)) }
 {
     if !is_allowed(store, loaded, file, Op::ReadBinary, seen)? {
         return Ok(Err(StatusWord::SECURITY_NOT_SATISFIED));
@@ -117,6 +125,10 @@ fn try_read<S: Store>(
     ensures ends { EndsTry result (memory S.Store store.old loaded.now) (memory S.Store store.new loaded.now)
         out.old out.new }
     ensures reads { Reads (memory S.Store store.old loaded.now) (memory S.Store store.new loaded.now) result }
+    ensures asks { (file : Descriptor)
+        → binary_to_read (descriptors_of loaded.now) selection.now command.now ≡ Ok file
+        → ReadsFile result (access_reads (descriptors_of loaded.now) file) (S.reads store.old) (S.reads store.new) }
+    ensures usual { IfOk result (λ tried. OnOk tried (out.new.status.0 ≢ StatusWord.SECURITY_NOT_SATISFIED.0)) }
 {
     // This call is a law, and does nothing.
     tables_tell_states();
@@ -192,7 +204,7 @@ fn try_update<S: Store>(
 }
 
 /// READ BINARY (11.1.3): answers bytes of a transparent EF. The bytes of the memory stay as they are, and after a fault the
-/// answer is empty.
+/// answer is empty. The file is read once, after access was granted; before that the record that rules it may be.
 pub fn read_binary<S: Store>(
     store: &mut S,
     loaded: &mut Loaded,
@@ -210,6 +222,9 @@ pub fn read_binary<S: Store>(
         out.new selection.new }
     ensures table { loaded.new ≡ loaded.old }
     ensures reads { Reads (memory S.Store store.old loaded.old) (memory S.Store store.new loaded.new) result }
+    ensures asks { (file : Descriptor)
+        → binary_to_read (descriptors_of loaded.old) selection.old command.now ≡ Ok file
+        → ReadsOnce result out.new (access_reads (descriptors_of loaded.old) file) (S.reads store.old) (S.reads store.new) }
     ensures refused { (status : StatusWord)
         → binary_to_read (descriptors_of loaded.old) selection.old command.now ≡ Err status
         → IsOk result × IsRefused status out.new selection.old selection.new × (store.new ≡ store.old) }

@@ -1,5 +1,5 @@
 //! The end of a command.
-ghost use Rattle.std.specs.Prelude.{◌≡◌, ◌≢◌, List, Result, Err};
+ghost use Rattle.std.specs.Prelude.{◌≡◌, ◌≢◌, List, Result, Err, OnOk};
 ghost use Rattle.card_state.specs.Persistent.{Persistent};
 ghost use Rattle.card_state.specs.Memory.{Memory};
 ghost use Rattle.file_model.specs.Outcomes.{FileOutcome, settled_file};
@@ -18,6 +18,7 @@ pub fn settle(tried: Result<Selection, StatusWord>, selection: &mut Selection, o
         → IsOutcome state (settled_file selection.old meaning) out.new selection.new old new }
     ensures answers { (meaning : Result FileOutcome StatusWord) → Tells meaning tried out.old
         → IsAnswer (settled_file selection.old meaning) out.new selection.new }
+    ensures done { OnOk tried (out.new ≡ out.old) }
     ensures refused { (status : StatusWord) → tried ≡ Err status
         → IsRefused status out.new selection.old selection.new }
     ensures lawful { (files : List Descriptor) → IsSelection files selection.old

@@ -64,20 +64,20 @@ module _ (written : WrittenStands) (now last : Memory) (number : ℕ) (node : No
 
   -- it was committed
   pub committed : {T : Type 0} (value : T) → last.table ≡ with_node now.table number node → last.told ≡ option_map put now.told → last.recovered ≡ true → last.size ≡ now.size → now.size ≡ memory_size → is_some last.told ≡ is_some now.told
-      → last.commits ≡ raised now.commits → HasCause now.meter last.meter (Ok value) → Committed now last (Ok value) change
-  committed value table is ready size sized told commits cause = record {
+      → last.commits ≡ raised now.commits → last.recoveries ≡ now.recoveries → HasCause now.meter last.meter (Ok value) → Committed now last (Ok value) change
+  committed value table is ready size sized told commits recoveries cause = record {
     ok = state_after is;
     whole = tt;
     commits = commits;
-    keeps = record { mounted = mounted_after is table ready (size ∙ sized); told = told; size = size; mark = mark; cause = cause };
+    keeps = record { mounted = mounted_after is table ready (size ∙ sized); told = told; size = size; mark = mark; recoveries = recoveries; cause = cause };
   }
 
   -- a fault stopped it
   pub stopped : {T : Type 0} (fault : StoreFault) → (last.told ≡ now.told) ⊎ (last.told ≡ option_map put now.told) → last.size ≡ now.size → is_some last.told ≡ is_some now.told
-      → last.commits ≡ now.commits → HasCause {T = T} now.meter last.meter (Err fault) → Committed {T = T} now last (Err fault) change
-  stopped fault how size told commits cause = record {
+      → last.commits ≡ now.commits → last.recoveries ≡ now.recoveries → HasCause {T = T} now.meter last.meter (Err fault) → Committed {T = T} now last (Err fault) change
+  stopped fault how size told commits recoveries cause = record {
     ok = tt;
     whole = state_either how;
     commits = commits;
-    keeps = record { mounted = tt; told = told; size = size; mark = mark; cause = cause };
+    keeps = record { mounted = tt; told = told; size = size; mark = mark; recoveries = recoveries; cause = cause };
   }

@@ -24,9 +24,9 @@ module _ (mark mark' : ℕ) (told told' : Option (List ℕ)) (table table' : Loa
   pub state_after : WrittenStands → told' ≡ option_map (applied pieces) told → standing mark' told' ≡ option_map change (standing mark told)
   state_after written is = rw same (stands_after written is).standing_is
 
-  pub mounted_after : WrittenStands → told' ≡ option_map (applied pieces) told → (recovered : Bool) (size : ℕ) (meter : Meter) (count : ℕ) → recovered ≡ true → size ≡ memory_size
-      → IsMounted (record { recovered = recovered; size = size; mark = mark'; told = told'; meter = meter; commits = count; table = table' })
-  mounted_after written is recovered size meter count ready whole = record { ready = ready; size_is = whole; agrees = rw same (stands_after written is).agrees }
+  pub mounted_after : WrittenStands → told' ≡ option_map (applied pieces) told → (recovered : Bool) (size : ℕ) (meter : Meter) (commits reads recoveries : ℕ) → recovered ≡ true → size ≡ memory_size
+      → IsMounted (record { recovered = recovered; size = size; mark = mark'; told = told'; meter = meter; commits = commits; reads = reads; recoveries = recoveries; table = table' })
+  mounted_after written is recovered size meter commits reads recoveries ready whole = record { ready = ready; size_is = whole; agrees = rw same (stands_after written is).agrees }
 
   pub state_either : OneOfBothStands → (told' ≡ told) ⊎ (told' ≡ option_map (applied pieces) told)
       → (standing mark' told' ≡ standing mark told) ⊎ (standing mark' told' ≡ option_map change (standing mark told))
@@ -47,5 +47,5 @@ stopped {T = T} old new table change fault (Err told) is given =
       ok = tt;
       whole = given.whole;
       commits = given.commits;
-      keeps = record { mounted = tt; told = given.keeps.told; size = given.keeps.size; mark = given.keeps.mark; cause = given.keeps.cause };
+      keeps = record { mounted = tt; told = given.keeps.told; size = given.keeps.size; mark = given.keeps.mark; recoveries = given.keeps.recoveries; cause = given.keeps.cause };
     })

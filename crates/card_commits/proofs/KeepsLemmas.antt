@@ -12,6 +12,7 @@ keeps_then first second third value result before after = record {
   told = after.told ∙ before.told;
   size = after.size ∙ before.size;
   mark = after.mark ∙ before.mark;
+  recoveries = after.recoveries ∙ before.recoveries;
   cause = caused_then first.meter second.meter third.meter (calm_ok first.meter second.meter (λ err. cc err) (λ err. cc err) before.cause) after.cause;
 }
 
@@ -22,6 +23,7 @@ keeps_done first second value other keeps = record {
   told = keeps.told;
   size = keeps.size;
   mark = keeps.mark;
+  recoveries = keeps.recoveries;
   cause = record {
     faults_kept = keeps.cause.faults_kept;
     cuts_kept = keeps.cause.cuts_kept;
@@ -47,6 +49,7 @@ fault_keeps {T} {U} first second fault (Err other) err same keeps =
       told = keeps.told;
       size = keeps.size;
       mark = keeps.mark;
+      recoveries = keeps.recoveries;
       cause = cause_of first.meter second.meter fault keeps.cause;
     } in
     subst (λ (f : StoreFault). Keeps {T = U} first second (Err f)) (sym same) so

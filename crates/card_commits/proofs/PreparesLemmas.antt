@@ -56,12 +56,12 @@ module _ (torn_stands : TornStands) (ranges : RangesAreFree) (old new : Memory) 
         agrees = subst (λ (m : ℕ). Agrees m new.told new.table) (sym mark) (subst (Agrees old.mark new.told) (sym table) stands_now.agrees);
       }) ready
 
-  pub prepares : is_some new.told ≡ is_some old.told → new.size ≡ old.size → new.commits ≡ old.commits → OnOk result (new.recovered ≡ true) → HasCause old.meter new.meter result → Prepares old new result change
-  prepares told size commits ready cause = record {
+  pub prepares : is_some new.told ≡ is_some old.told → new.size ≡ old.size → new.commits ≡ old.commits → new.recoveries ≡ old.recoveries → OnOk result (new.recovered ≡ true) → HasCause old.meter new.meter result → Prepares old new result change
+  prepares told size commits recoveries ready cause = record {
     ok = done;
     still = still_standing;
     commits = commits;
-    keeps = record { mounted = still_mounted size ready; told = told; size = size; mark = mark; cause = cause };
+    keeps = record { mounted = still_mounted size ready; told = told; size = size; mark = mark; recoveries = recoveries; cause = cause };
   }
 
 -- two calls that prepare bytes, the first without a fault
@@ -76,6 +76,7 @@ prepared_both value old mid new first second both result before after together =
     told = after.keeps.told ∙ before.keeps.told;
     size = after.keeps.size ∙ before.keeps.size;
     mark = after.keeps.mark ∙ before.keeps.mark;
+    recoveries = after.keeps.recoveries ∙ before.keeps.recoveries;
     cause = caused_then old.meter mid.meter new.meter (calm_ok old.meter mid.meter (λ failed. cc) (λ lost. cc) before.keeps.cause) after.keeps.cause;
   };
 }

@@ -19,12 +19,13 @@ pub record IsAmongFiles (place count : ℕ) : Type 0 where
 
 -- ---- what a call does to the store
 
--- After Ok no recovery is due. Whether it tells its bytes, its size and its mark stay, and each fault has its cause.
+-- After Ok no recovery is due. Whether it tells its bytes, its size and its mark stay, it isn't recovered, and each fault has its cause.
 pub record KeepsStore {S T : Type 0} (words : StoreWords S) (old new : S) (result : Result T StoreFault) : Type 0 where
   pub told : is_some (words.stable new) ≡ is_some (words.stable old)
   pub ready : OnOk result (words.recovered new ≡ true)
   pub size : words.byte_count new ≡ words.byte_count old
   pub mark : words.store_mark new ≡ words.store_mark old
+  pub recoveries : words.recoveries new ≡ words.recoveries old
   pub cause : HasCause (words.meter old) (words.meter new) result
 
 -- A range is prepared: the bytes are changed so after Ok, and after a fault the range holds any bytes. Nothing is committed.

@@ -1,5 +1,6 @@
 //! What is read of files.
 ghost use Rattle.std.specs.Prelude.{◌≡◌, length, OnOk, IfSome, take, drop, slice_index_or, []};
+ghost use Rattle.uicc_types.specs.Counts.{raised};
 ghost use Rattle.card_state.specs.Memory.{IsMounted, Reads, held_by, memory};
 ghost use Rattle.file_model.specs.Holdings.{bytes_in, records_in};
 ghost use Rattle.card_commits.specs.Entries.{HasBytes, HasRecord};
@@ -24,6 +25,8 @@ pub fn read_bytes<S: Store>(
     ensures read { OnOk result (IfSome (held_by S.Store store.old) (λ state.
         out.new ≡ take (length out.old) (drop offset (bytes_in state number)))) }
     ensures reads { Reads (memory S.Store store.old loaded.now) (memory S.Store store.new loaded.now) result }
+    // The store is read once, also where that meets a fault.
+    ensures once { S.reads store.new ≡ raised (S.reads store.old) }
 {
     // These calls are laws, and do nothing.
     files_are_found();
@@ -48,6 +51,8 @@ pub fn read_record<S: Store>(
     ensures read { OnOk result (IfSome (held_by S.Store store.old) (λ state.
         out.new ≡ slice_index_or (records_in state number) index [])) }
     ensures reads { Reads (memory S.Store store.old loaded.now) (memory S.Store store.new loaded.now) result }
+    // The store is read once, also where that meets a fault.
+    ensures once { S.reads store.new ≡ raised (S.reads store.old) }
 {
     // These calls are laws, and do nothing.
     files_are_found();

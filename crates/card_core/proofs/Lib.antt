@@ -28,6 +28,7 @@ mod OpensLemmas
 mod PinYieldsLemmas
 mod PolledOnLemmas
 mod PutBackLemmas
+mod ReadsOnceLemmas
 mod RefusesByTableLemmas
 pub mod RestartLemmas
 mod RowOnLemmas

@@ -21,6 +21,8 @@ with_memory parts memory channels = record parts {
   told = memory.told;
   meter = memory.meter;
   commits = memory.commits;
+  reads = memory.reads;
+  recoveries = memory.recoveries;
   table = memory.table;
   channels = channels;
 }

@@ -327,12 +327,9 @@ armed_ready parts meter plan is ready = record {
   good = subst (λ found. IfSome found IsGood) (sym (metered_same parts meter)) ready.good;
 }
 
--- a store that has other counts alone
-pub metered : (parts : CardParts) (recovered : Bool) (size mark : ℕ) (told : Option (List ℕ)) (meter : Meter) (commits : ℕ) → recovered ≡ parts.recovered → size ≡ parts.byte_count → mark ≡ parts.store_mark → told ≡ parts.told → commits ≡ parts.commits
-    → record parts { recovered = recovered; byte_count = size; store_mark = mark; told = told; meter = meter; commits = commits } ≡ record parts { meter = meter }
-metered parts recovered size mark told meter commits ready sized marked bytes counted =
-    ap (λ (now : Bool). record parts { recovered = now; byte_count = size; store_mark = mark; told = told; meter = meter; commits = commits }) ready
-    ∙ ap (λ (now : ℕ). record parts { byte_count = now; store_mark = mark; told = told; meter = meter; commits = commits }) sized
-    ∙ ap (λ (now : ℕ). record parts { store_mark = now; told = told; meter = meter; commits = commits }) marked
-    ∙ ap (λ (now : Option (List ℕ)). record parts { told = now; meter = meter; commits = commits }) bytes
-    ∙ ap (λ (now : ℕ). record parts { meter = meter; commits = now }) counted
+-- a store that has other counts of its device alone
+pub metered : (parts : CardParts) (recovered : Bool) (size mark : ℕ) (told : Option (List ℕ)) (meter : Meter) (commits reads recoveries : ℕ) → recovered ≡ parts.recovered → size ≡ parts.byte_count → mark ≡ parts.store_mark → told ≡ parts.told
+    → commits ≡ parts.commits → reads ≡ parts.reads → recoveries ≡ parts.recoveries
+    → record parts { recovered = recovered; byte_count = size; store_mark = mark; told = told; meter = meter; commits = commits; reads = reads; recoveries = recoveries } ≡ record parts { meter = meter }
+metered parts recovered size mark told meter commits reads recoveries ready sized marked bytes committed read recovered_so =
+    λ i. record parts { recovered = ready i; byte_count = sized i; store_mark = marked i; told = bytes i; meter = meter; commits = committed i; reads = read i; recoveries = recovered_so i }

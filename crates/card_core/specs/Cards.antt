@@ -32,6 +32,8 @@ parts_of store applet card = record {
   told = store.stable card.store;
   meter = store.meter card.store;
   commits = store.commits card.store;
+  reads = store.reads card.store;
+  recoveries = store.recoveries card.store;
   table = card.loaded.value;
   index = card.index;
   channels = card.channels;
@@ -52,6 +54,8 @@ memory_of parts = record {
   told = parts.told;
   meter = parts.meter;
   commits = parts.commits;
+  reads = parts.reads;
+  recoveries = parts.recoveries;
   table = parts.table;
 }
 

@@ -1,5 +1,6 @@
 pub mod Acting
 pub mod AnyStore
+pub mod BinaryReads
 pub mod Boxes
 pub mod Cards
 pub mod Commands

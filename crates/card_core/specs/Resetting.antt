@@ -1,6 +1,6 @@
 -- Restarts and resets, over any store.
 use Rattle.std.specs.Prelude.{◌≡◌, true, false, is_some, Result, Err, OnOk, OnErr, IsErrOf}
-use Rattle.uicc_types.specs.Counts.{Caused}
+use Rattle.uicc_types.specs.Counts.{Caused, Rose, raised}
 use Rattle.store_form.specs.Faults.{HasCause}
 use Rattle.store_form.specs.declared.store.StoreFault.{StoreFault}
 use Rattle.card_core.specs.AnyStore.{BeginsAnew}
@@ -25,6 +25,16 @@ pub record Rests {X : Type 0} (result : Result X StoreFault) (old new : CardPart
   pub mark : new.store_mark ≡ old.store_mark
   -- each fault was counted, and there was no other
   pub cause : HasCause old.meter new.meter result
+
+-- A card that is started again, by a reset or behind a fault, asks for one recovery, however that ends. After Ok the store was read.
+pub record StartsAgain {X E : Type 0} (result : Result X E) (old new : CardParts) : Type 0 where
+  pub recovered : new.recoveries ≡ raised old.recoveries
+  pub read : OnOk result (Rose old.reads new.reads)
+
+-- A command asks for one recovery where that is due, and for none where nothing is.
+pub record RecoversIfDue (old new : CardParts) : Type 0 where
+  pub due : old.is_due ≡ true → new.recoveries ≡ raised old.recoveries
+  pub rests : old.is_due ≡ false → new.recoveries ≡ old.recoveries
 
 -- What a reset leaves of the card.
 pub record Resets {X : Type 0} (result : Result X ResetFault) (old new : CardParts) : Type 0 where

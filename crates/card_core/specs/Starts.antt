@@ -88,6 +88,10 @@ pub record Refuses (old new : Memory) (boxes : List (Option AppletState)) (fault
 
 -- ---- a card that is started again
 
+-- the memory, once one more recovery was asked of it
+abbrev pub recovered_once : Memory → Memory
+recovered_once memory = record memory { recoveries = raised memory.recoveries }
+
 -- The store has the size of a card's memory. One that tells its bytes holds a card, each of whose applets has its box; of one
 -- that doesn't the table is that of such a card.
 pub record MayRestart (memory : Memory) (boxes : List (Option AppletState)) : Type 0 where

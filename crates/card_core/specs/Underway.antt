@@ -28,6 +28,8 @@ pub record KeepsOthers (old new : CardParts) : Type 0 where
   pub store_mark : new.store_mark ≡ old.store_mark
   -- whether the store tells its bytes
   pub told : is_some new.told ≡ is_some old.told
+  -- no recovery is asked for
+  pub recoveries : new.recoveries ≡ old.recoveries
   pub is_on : new.is_on ≡ old.is_on
   pub is_due : new.is_due ≡ old.is_due
 

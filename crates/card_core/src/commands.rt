@@ -3,7 +3,9 @@ ghost use Rattle.std.specs.Prelude.{◌≡◌, ◌≢◌, [], true, Some, Ok, Er
 ghost use Rattle.apdu_form.specs.Model.{cut_to};
 ghost use Rattle.card_state.specs.States.{pins_of};
 ghost use Rattle.card_state.specs.Memory.{IsMounted, memory};
+ghost use Rattle.file_model.specs.declared.descriptors.Descriptor.{Descriptor};
 ghost use Rattle.file_model.specs.Access.{keys_seen};
+ghost use Rattle.file_model.specs.Binaries.{binary_to_read};
 ghost use Rattle.file_model.specs.Files.{descriptors_of};
 ghost use Rattle.file_model.specs.Outcomes.{settled_file};
 ghost use Rattle.apdu_form.specs.Classes.{channel_of};
@@ -13,6 +15,7 @@ ghost use Rattle.file_model.specs.LawfulTrees.{AreSelected};
 ghost use Rattle.card_commits.specs.Performing.{Performs, StaysStill};
 ghost use Rattle.binary_commands.specs.Commands.{IsSomeCommand, IsInPlace};
 ghost use Rattle.binary_commands.specs.Ends.{EndsWell};
+ghost use Rattle.binary_commands.specs.Reads.{access_reads, ReadsOnce};
 ghost use Rattle.binary_commands.specs.Targets.{IsRefused};
 ghost use Rattle.record_commands.specs.Tables.{KeepsOtherFiles};
 ghost use Rattle.file_admin.specs.Outcomes.{PerformsTree, IfNothingPasses, EndsTree};
@@ -69,6 +72,10 @@ fn on_contents<S: Store>(
         → IsOk result × IsRefused status out.new selection.old selection.new
         × (memory S.Store store.new loaded.new ≡ memory S.Store store.old loaded.old) }
     ensures files { KeepsOtherFiles loaded.old loaded.new }
+    ensures asks { command ≡ ContentsCommand.ReadBinary → (file : Descriptor)
+        → binary_to_read (descriptors_of loaded.old) selection.old apdu.now ≡ Ok file
+        → ReadsOnce result out.new (access_reads (descriptors_of loaded.old) file) (S.reads store.old)
+        (S.reads store.new) }
     ensures ends { EndsWell result (memory S.Store store.old loaded.old) (memory S.Store store.new loaded.new)
         out.new selection.new }
 {
@@ -109,6 +116,10 @@ fn on_files<S: Store>(
         (memory S.Store store.old loaded.old) (memory S.Store store.new loaded.new)
         selection.old selection.new out.new }
     ensures files { KeepsOtherFiles loaded.old loaded.new }
+    ensures asks { command ≡ FileCommand.Contents ContentsCommand.ReadBinary → (file : Descriptor)
+        → binary_to_read (descriptors_of loaded.old) selection.old apdu.now ≡ Ok file
+        → ReadsOnce result out.new (access_reads (descriptors_of loaded.old) file) (S.reads store.old)
+        (S.reads store.new) }
     ensures ends { EndsWell result (memory S.Store store.old loaded.old) (memory S.Store store.new loaded.new)
         out.new selection.new }
 {
@@ -180,6 +191,7 @@ impl<S: Store, B: Applet> CardOver<S, B> {
     ghost use Rattle.card_core.specs.AnyStore.{command_named};
     ghost use Rattle.card_core.specs.Acting.{ActsOn, ActsAlone, ChangesNothing, TellsApplets, StopsToolkit, in_form, in_bytes, in_whole, ActsAs};
     ghost use Rattle.card_core.specs.Moves.{IsAnswered, polled_on};
+    ghost use Rattle.card_core.specs.BinaryReads.{ReadsFileOnce, ReadsBinaryOnce};
     ghost use Rattle.card_core.specs.Underway.{IsUnderway, IsOnChannel, GoesOn};
 
     // A command on files, over what is selected on its channel. The other channels stay as they are. Inlined, since the command is known
@@ -201,6 +213,8 @@ impl<S: Store, B: Applet> CardOver<S, B> {
             (parts_of S.Store B.Applet self.new) }
         ensures table { OnErr result ((parts_of S.Store B.Applet self.new).table
             ≡ (parts_of S.Store B.Applet self.old).table) }
+        ensures asks { command ≡ FileCommand.Contents ContentsCommand.ReadBinary
+            → ReadsFileOnce result (parts_of S.Store B.Applet self.old) (parts_of S.Store B.Applet self.new) apdu.now out.new }
         ensures goes_on { GoesOn result (parts_of S.Store B.Applet self.old) (parts_of S.Store B.Applet self.new) }
     {
         // These calls are laws, and do nothing.
@@ -496,6 +510,9 @@ impl<S: Store, B: Applet> CardOver<S, B> {
             → self.new ≡ self.old }
         ensures acts { ActsAs result (parts_of S.Store B.Applet self.old) (parts_of S.Store B.Applet self.new) out.new
             (in_form (parts_of S.Store B.Applet self.old) apdu.now) }
+        ensures asks { instruction_tried is_known self.old.channels apdu.now.class apdu.now.ins
+            ≡ Ok (Instruction.File (FileCommand.Contents ContentsCommand.ReadBinary))
+            → ReadsFileOnce result (parts_of S.Store B.Applet self.old) (parts_of S.Store B.Applet self.new) apdu.now out.new }
         ensures goes_on { GoesOn result (parts_of S.Store B.Applet self.old) (parts_of S.Store B.Applet self.new) }
     {
         match instruction_of(&self.channels, apdu) {
@@ -527,6 +544,7 @@ impl<S: Store, B: Applet> CardOver<S, B> {
             ≡ self.old }
         ensures acts { ActsAs result (parts_of S.Store B.Applet self.old) (parts_of S.Store B.Applet self.new) out.new
             (in_bytes (parts_of S.Store B.Applet self.old) bytes.now) }
+        ensures asks { ReadsBinaryOnce result (parts_of S.Store B.Applet self.old) (parts_of S.Store B.Applet self.new) bytes.now out.new }
         ensures goes_on { GoesOn result (parts_of S.Store B.Applet self.old) (parts_of S.Store B.Applet self.new) }
     {
         match read_command(bytes) {
@@ -555,6 +573,7 @@ impl<S: Store, B: Applet> CardOver<S, B> {
             ≡ self.old }
         ensures acts { ActsAs result (parts_of S.Store B.Applet self.old) (parts_of S.Store B.Applet self.new) out.new
             (in_whole (parts_of S.Store B.Applet self.old) bytes.now) }
+        ensures asks { ReadsBinaryOnce result (parts_of S.Store B.Applet self.old) (parts_of S.Store B.Applet self.new) bytes.now out.new }
         ensures goes_on { GoesOn result (parts_of S.Store B.Applet self.old) (parts_of S.Store B.Applet self.new) }
     {
         match self.attempt(bytes, out) {

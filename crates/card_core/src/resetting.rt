@@ -1,12 +1,13 @@
 //! Resets, and what is due after a fault.
 ghost use Rattle.std.specs.Prelude.{◌≡◌, length, true, All, OnOk, OnErr, IfSome, option_map};
+ghost use Rattle.uicc_types.specs.Counts.{Rose};
 ghost use Rattle.card_state.specs.declared.sizes.TheConstants.{ROW_COUNT};
 ghost use Rattle.card_state.specs.States.{rows_of};
 ghost use Rattle.card_state.specs.Memory.{Reads, memory};
 ghost use Rattle.applet_trait.specs.Minds.{minds_of};
 ghost use Rattle.toolkit_model.specs.Commands.{woken_boxes};
 ghost use Rattle.card_model.specs.States.{HasBox, restarted};
-ghost use Rattle.card_core.specs.Starts.{MayRestart, RestartsMemory};
+ghost use Rattle.card_core.specs.Starts.{MayRestart, RestartsMemory, recovered_once};
 ghost use Rattle.card_core.specs.Cards.{boxes_kept};
 
 use crate::cards::CardOver;
@@ -45,7 +46,9 @@ fn wake_again<S: Store, B: Applet>(
         (boxes_kept leaving (rows_of loaded.new) (minds_of B.mind boxes.old))) }
     ensures asleep { OnErr result (boxes.new ≡ boxes.old) }
     ensures table { OnErr result (loaded.new ≡ loaded.old) }
-    ensures reads { Reads (memory S.Store store.old loaded.old) (memory S.Store store.new loaded.new) result }
+    ensures reads { Reads (recovered_once (memory S.Store store.old loaded.old)) (memory S.Store store.new loaded.new)
+        result }
+    ensures read { OnOk result (Rose (S.reads store.old) (S.reads store.new)) }
 {
     match crate::restarting::restart(store, loaded, boxes) {
         Ok(()) => {
@@ -59,7 +62,7 @@ fn wake_again<S: Store, B: Applet>(
 impl<S: Store, B: Applet> CardOver<S, B> {
     ghost use Rattle.card_core.specs.Cards.{parts_of, card_of, card_due, held_by, IsSet, IsCardReady};
     ghost use Rattle.card_core.specs.AnyStore.{BeginsAnew};
-    ghost use Rattle.card_core.specs.Resetting.{KeepsBytes, Rests, Resets, ResetsStore};
+    ghost use Rattle.card_core.specs.Resetting.{KeepsBytes, Rests, Resets, ResetsStore, StartsAgain};
 
     // Recovers the store, mounts what it holds, clears what a reset clears, and wakes the applets. Until that is done it is due.
     pub(crate) fn restart(&mut self) -> Result<(), StoreFault>
@@ -75,6 +78,7 @@ impl<S: Store, B: Applet> CardOver<S, B> {
             ≡ (parts_of S.Store B.Applet self.old).table) }
         ensures bytes { KeepsBytes (parts_of S.Store B.Applet self.old) (parts_of S.Store B.Applet self.new) }
         ensures rests { Rests result (parts_of S.Store B.Applet self.old) (parts_of S.Store B.Applet self.new) }
+        ensures starts { StartsAgain result (parts_of S.Store B.Applet self.old) (parts_of S.Store B.Applet self.new) }
     {
         // These calls are laws, and do nothing.
         tables_tell_states();
@@ -101,8 +105,8 @@ impl<S: Store, B: Applet> CardOver<S, B> {
     }
 
     /// Powers the device up, and makes the card what it is after a reset: what it holds for good is the same, and the rest begins
-    /// anew. After `Failed` what is left of that comes first in the next command, if there was power before; after `PowerLost`
-    /// there is no power.
+    /// anew. The store is recovered once, and read after that. After `Failed` what is left of that comes first in the next command, if
+    /// there was power before; after `PowerLost` there is no power.
     pub fn reset(&mut self) -> Result<(), ResetFault>
         requires ready { IsCardReady (parts_of S.Store B.Applet self.old) }
         ensures restarted { card_of (parts_of S.Store B.Applet self.new)
@@ -110,6 +114,7 @@ impl<S: Store, B: Applet> CardOver<S, B> {
         ensures ready { IsCardReady (parts_of S.Store B.Applet self.new) }
         ensures resets { Resets result (parts_of S.Store B.Applet self.old) (parts_of S.Store B.Applet self.new) }
         ensures store { ResetsStore result (parts_of S.Store B.Applet self.old) (parts_of S.Store B.Applet self.new) }
+        ensures starts { StartsAgain result (parts_of S.Store B.Applet self.old) (parts_of S.Store B.Applet self.new) }
     {
         // This call is a law, and does nothing.
         restarts_are_good();

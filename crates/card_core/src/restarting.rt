@@ -1,11 +1,12 @@
 //! The start of a card again, at a reset and after a fault.
 ghost use Rattle.std.specs.Prelude.{◌≡◌, true, length, OnOk, OnErr};
+ghost use Rattle.uicc_types.specs.Counts.{Rose};
 ghost use Rattle.card_state.specs.declared.sizes.TheConstants.{ROW_COUNT};
 ghost use Rattle.card_state.specs.Memory.{Reads, memory};
 ghost use Rattle.card_state.specs.States.{rows_of};
 ghost use Rattle.applet_trait.specs.Minds.{minds_of};
 ghost use Rattle.toolkit_model.specs.Commands.{woken_boxes};
-ghost use Rattle.card_core.specs.Starts.{MayRestart, RestartsMemory};
+ghost use Rattle.card_core.specs.Starts.{MayRestart, RestartsMemory, recovered_once};
 
 use crate::box_waking::{first_without_box, wake_boxes};
 use applet_trait::Applet;
@@ -29,6 +30,7 @@ fn mount_again<S: Store, B: Applet>(
         (minds_of B.mind boxes.now)) }
     ensures table { OnErr result (loaded.new ≡ loaded.old) }
     ensures reads { Reads (memory S.Store store.old loaded.old) (memory S.Store store.new loaded.new) result }
+    ensures read { Rose (S.reads store.old) (S.reads store.new) }
 {
     // This call is a law, and does nothing.
     cards_are_known();
@@ -47,7 +49,7 @@ fn mount_again<S: Store, B: Applet>(
     }
 }
 
-/// Recovers the store, mounts what it holds, and wakes the applet of each row. After a fault the table and the boxes are as they
+/// Recovers the store, once, mounts what it holds, and wakes the applet of each row. After a fault the table and the boxes are as they
 /// were.
 ///
 /// Where what was read is no card, or one with an applet that has no box, the table stays as it was; of a store that tells its
@@ -66,7 +68,9 @@ pub fn restart<S: Store, B: Applet>(
         (minds_of B.mind boxes.new ≡ woken_boxes (rows_of loaded.new) (minds_of B.mind boxes.old)) }
     ensures asleep { OnErr result (boxes.new ≡ boxes.old) }
     ensures table { OnErr result (loaded.new ≡ loaded.old) }
-    ensures reads { Reads (memory S.Store store.old loaded.old) (memory S.Store store.new loaded.new) result }
+    ensures reads { Reads (recovered_once (memory S.Store store.old loaded.old)) (memory S.Store store.new loaded.new)
+        result }
+    ensures read { OnOk result (Rose (S.reads store.old) (S.reads store.new)) }
 {
     store.recover()?;
     mount_again(store, loaded, boxes)?;

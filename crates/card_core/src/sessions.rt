@@ -22,6 +22,7 @@ pub fn fresh_session(alloc: Global) -> Result<Session, OutOfMemory>
 pub fn told_pending(pending: Option<u8>, status: StatusWord) -> StatusWord
     ensures value { result ≡ told_pending pending status }
     ensures usual { status.0 ≢ StatusWord.MEMORY_PROBLEM.0 → result.0 ≢ StatusWord.MEMORY_PROBLEM.0 }
+    ensures denied { result.0 ≡ StatusWord.SECURITY_NOT_SATISFIED.0 → status ≡ StatusWord.SECURITY_NOT_SATISFIED }
 {
     if let Some(count) = pending {
         if status.0 == StatusWord::DONE.0 {

@@ -13,7 +13,8 @@ impl<S: Store, B: Applet> CardOver<S, B> {
     ghost use Rattle.card_core.specs.AnyStore.{BeginsAnew, command_named, ActsAnew};
     ghost use Rattle.card_core.specs.Acting.{in_whole, ActsAs, ActsAtOnce, ActsAfterRestart, LeavesCard};
     ghost use Rattle.card_core.specs.Moves.{IsAnswered, Transmits, CountsCommits, TellsFaults, TellsPower, KeepsCardStore};
-    ghost use Rattle.card_core.specs.Resetting.{KeepsBytes, Rests};
+    ghost use Rattle.card_core.specs.BinaryReads.{ReadsBinaryOnce};
+    ghost use Rattle.card_core.specs.Resetting.{KeepsBytes, RecoversIfDue, Rests};
 
     // Does what is due after an earlier fault.
     fn catch_up(&mut self) -> Result<(), StoreFault>
@@ -25,6 +26,7 @@ impl<S: Store, B: Applet> CardOver<S, B> {
         ensures due { OnErr result (self.new.is_due ≡ true) }
         ensures bytes { KeepsBytes (parts_of S.Store B.Applet self.old) (parts_of S.Store B.Applet self.new) }
         ensures rests { Rests result (parts_of S.Store B.Applet self.old) (parts_of S.Store B.Applet self.new) }
+        ensures recovers { RecoversIfDue (parts_of S.Store B.Applet self.old) (parts_of S.Store B.Applet self.new) }
     {
         if self.is_due { self.restart() } else { Ok(()) }
     }
@@ -45,6 +47,9 @@ impl<S: Store, B: Applet> CardOver<S, B> {
             (parts_of S.Store B.Applet self.new)) }
         ensures good { IsLeftGood result (parts_of S.Store B.Applet self.new) }
         ensures rests { Rests result (parts_of S.Store B.Applet self.old) (parts_of S.Store B.Applet self.new) }
+        ensures recovers { RecoversIfDue (parts_of S.Store B.Applet self.old) (parts_of S.Store B.Applet self.new) }
+        ensures asks { self.old.is_due ≡ false → ReadsBinaryOnce result (parts_of S.Store B.Applet self.old)
+            (parts_of S.Store B.Applet self.new) apdu.now out.new }
     {
         // These two calls are laws, and do nothing.
         cards_stay_good();
@@ -123,6 +128,12 @@ impl<S: Store, B: Applet> CardOver<S, B> {
             apdu.now out.new }
         ensures faults { TellsFaults result (parts_of S.Store B.Applet self.new) out.old out.new }
         ensures power { TellsPower result (parts_of S.Store B.Applet self.old) (parts_of S.Store B.Applet self.new) }
+        ensures recovers { (parts_of S.Store B.Applet self.old).is_on ≡ true
+            → RecoversIfDue (parts_of S.Store B.Applet self.old) (parts_of S.Store B.Applet self.new) }
+        ensures asks { (parts_of S.Store B.Applet self.old).is_on ≡ true
+            → (parts_of S.Store B.Applet self.old).is_due ≡ false
+            → ReadsBinaryOnce result (parts_of S.Store B.Applet self.old) (parts_of S.Store B.Applet self.new)
+            apdu.now out.new }
         ensures untouched { LeavesCard (parts_of S.Store B.Applet self.old) apdu.now → self.new ≡ self.old }
         ensures keeps { KeepsCardStore result (parts_of S.Store B.Applet self.old) (parts_of S.Store B.Applet self.new)
             out.new }

@@ -9,7 +9,8 @@ use Rattle.card_state.specs.Places.{memory_size}
 use Rattle.card_state.specs.Persistent.{Persistent}
 use Rattle.card_state.specs.Standing.{standing, Agrees}
 
--- whether no recovery is due, the size, the mark, the bytes where they are told, what is counted, and the table
+-- whether no recovery is due, the size, the mark, the bytes where they are told, what is counted (of its device, and its commits, reads and
+-- recoveries), and the table
 pub record Memory : Type 0 where
   pub recovered : Bool
   pub size : ℕ
@@ -17,6 +18,8 @@ pub record Memory : Type 0 where
   pub told : Option (List ℕ)
   pub meter : Meter
   pub commits : ℕ
+  pub reads : ℕ
+  pub recoveries : ℕ
   pub table : Loaded
 
 -- the memory of any store with a table
@@ -28,6 +31,8 @@ memory words store table = record {
   told = words.stable store;
   meter = words.meter store;
   commits = words.commits store;
+  reads = words.reads store;
+  recoveries = words.recoveries store;
   table = table;
 }
 
@@ -47,12 +52,13 @@ pub record IsMounted (memory : Memory) : Type 0 where
 
 -- ---- what a call does to it
 
--- After Ok it is mounted. Whether it tells its bytes, its size and its mark stay, and each fault has its cause.
+-- After Ok it is mounted. Whether it tells its bytes, its size and its mark stay, it isn't recovered, and each fault has its cause.
 pub record Keeps {T : Type 0} (old new : Memory) (result : Result T StoreFault) : Type 0 where
   pub mounted : OnOk result (IsMounted new)
   pub told : is_some new.told ≡ is_some old.told
   pub size : new.size ≡ old.size
   pub mark : new.mark ≡ old.mark
+  pub recoveries : new.recoveries ≡ old.recoveries
   pub cause : HasCause old.meter new.meter result
 
 -- a call that only reads: its bytes stay too, and nothing is committed

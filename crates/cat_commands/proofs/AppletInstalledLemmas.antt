@@ -44,7 +44,7 @@ cut_err outcome old new (Err fault) err cut = cut
 pub keeps_beside : {T U : Type 0} (old new : Memory) (next : ℕ) (value : T) (other : U) → Keeps old new (Ok value) → Keeps (record old { table = record old.table { next = next } }) new (Ok other)
 keeps_beside old new next value other keeps =
     let done = keeps_done old new value other keeps in
-    record { mounted = done.mounted; told = done.told; size = done.size; mark = done.mark; cause = done.cause }
+    record { mounted = done.mounted; told = done.told; size = done.size; mark = done.mark; recoveries = done.recoveries; cause = done.cause }
 
 -- the row is registered, and then the command ends
 pub keeps_installed : {T U : Type 0} (old mid new : Scene) (value : T) (result : Result U StoreFault) → KeepsScene (with_next mid.memory.table.next old) mid (Ok value) → KeepsScene mid new result → KeepsScene (with_next new.memory.table.next old) new result

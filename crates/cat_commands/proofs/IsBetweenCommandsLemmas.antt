@@ -26,6 +26,7 @@ memory_stays value memory mounted =
       told = refl;
       size = refl;
       mark = refl;
+      recoveries = refl;
       cause = record {
         faults_kept = calm.faults_kept;
         cuts_kept = calm.cuts_kept;

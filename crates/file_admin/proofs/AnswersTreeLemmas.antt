@@ -45,10 +45,10 @@ calm_cause : {T : Type 0} (old new : Meter) (value : T) → IsCalm old new → H
 calm_cause old new value calm = caused_so old new (λ none. absurd none) (λ is. cc) (λ none. absurd none) (λ is. cc) calm
 
 pub keeps_err : {T U : Type 0} (old new : Memory) (fault : StoreFault) → Keeps {T = T} old new (Err fault) → Keeps {T = U} old new (Err fault)
-keeps_err {T} {U} old new fault keeps = record { mounted = tt; told = keeps.told; size = keeps.size; mark = keeps.mark; cause = cause_of {T = T} {U = U} old.meter new.meter fault keeps.cause }
+keeps_err {T} {U} old new fault keeps = record { mounted = tt; told = keeps.told; size = keeps.size; mark = keeps.mark; recoveries = keeps.recoveries; cause = cause_of {T = T} {U = U} old.meter new.meter fault keeps.cause }
 
 pub keeps_all : {U : Type 0} (old : Memory) (other : U) → IsMounted old → Keeps old old (Ok other)
-keeps_all old other mounted = record { mounted = mounted; told = refl; size = refl; mark = refl; cause = calm_cause old.meter old.meter other (calm_same old.meter) }
+keeps_all old other mounted = record { mounted = mounted; told = refl; size = refl; mark = refl; recoveries = refl; cause = calm_cause old.meter old.meter other (calm_same old.meter) }
 
 -- ---- what it comes to
 

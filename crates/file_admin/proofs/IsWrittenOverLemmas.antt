@@ -57,6 +57,7 @@ module _ (old : Memory) (mounted : IsMounted old) (number : ℕ) (node : Node) (
             told = after.keeps.told ∙ before.keeps.told;
             size = after.keeps.size ∙ before.keeps.size;
             mark = after.keeps.mark ∙ before.keeps.mark;
+            recoveries = after.keeps.recoveries ∙ before.keeps.recoveries;
             cause = caused_then old.meter mid.meter new.meter (calm_ok old.meter mid.meter (λ failed. cc) (λ lost. cc) before.keeps.cause) after.keeps.cause;
           };
         }

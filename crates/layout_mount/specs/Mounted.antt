@@ -1,6 +1,6 @@
 -- What a mount reads of a store, and what its table is then.
 use Rattle.std.specs.Prelude.{◌≡◌, ℕ, true, List, length, Option, IfSome, Err}
-use Rattle.uicc_types.specs.Counts.{Caused}
+use Rattle.uicc_types.specs.Counts.{Caused, Rose}
 use Rattle.uicc_types.specs.Told.{AreBytes}
 use Rattle.store_form.specs.declared.store.Store.{Ghosts as StoreWords}
 use Rattle.card_state.specs.declared.entries.Loaded.{Loaded}
@@ -43,10 +43,12 @@ pub record FindsNoCard (old new : Memory) (at : ℕ) : Type 0 where
   pub ready : new.recovered ≡ true
   pub no_card : HoldsNoCard old.mark old.told at
 
--- Its bytes, its commits, its size and its mark stay, and each fault has its cause.
+-- It is read at least once, and not recovered. Its bytes, its commits, its size and its mark stay, and each fault has its cause.
 pub record OnlyReads (old new : Memory) (IsFailed IsLost : Type 0) : Type 0 where
   pub stable : new.told ≡ old.told
   pub commits : new.commits ≡ old.commits
+  pub read : Rose old.reads new.reads
+  pub recoveries : new.recoveries ≡ old.recoveries
   pub size : new.size ≡ old.size
   pub mark : new.mark ≡ old.mark
   pub cause : Caused old.meter new.meter IsFailed IsLost

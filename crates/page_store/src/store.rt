@@ -3,7 +3,7 @@ ghost use Rattle.std.specs.Prelude.{◌≡◌, ◌+◌, ◌<◌, true, false, le
 ghost use Rattle.uicc_types.specs.Counts.{armed};
 ghost use Rattle.store_form.specs.Faults.{HasCause};
 ghost use Rattle.store_form.specs.Pieces.{IsUsable, IsUsablePiece};
-ghost use Rattle.store_form.specs.StoreCalls.{CommitsPieces, HoldsTheSame, PreparesBytes, StaysItself};
+ghost use Rattle.store_form.specs.StoreCalls.{CommitsPieces, HoldsTheSame, IsAsked, PreparesBytes, StaysItself};
 ghost use Rattle.update_journal.specs.Calls.{calls_at, calls_to_recover, MadeAtMost, MakesCalls};
 ghost use Rattle.update_journal.specs.Journal.{stable};
 ghost use Rattle.update_journal.specs.declared.steps.TheConstants.{MOST_TO_RECOVER};
@@ -23,13 +23,15 @@ use uicc_types::Plan;
 use update_journal::Journal;
 
 /// A store of 65,536 bytes on a device of 71,680, over a journal in its first pages. What a contract sees of it is its
-/// device, what it knows of the map, the counts of the program calls that it made and of its commits, and whether the journal takes no recovery to be
-/// due.
+/// device, what it knows of the map, the counts of the program calls that it made, of its commits, and of the reads and recoveries that
+/// were asked of it, and whether the journal takes no recovery to be due.
 #[derive(Debug, Drop)]
 pub struct PageStore<E: Eeprom> {
     journal: Journal<E>,
     known: Known,
     commits: u64,
+    reads: u64,
+    recoveries: u64,
 }
 
 impl<E: Eeprom> Model for PageStore<E> {
@@ -43,6 +45,8 @@ impl<E: Eeprom> Model for PageStore<E> {
       known = store.known;
       programs = store.journal.programs;
       commits = store.commits;
+      reads = store.reads;
+      recoveries = store.recoveries;
       is_ready = store.journal.is_ready;
     } };
 
@@ -54,12 +58,14 @@ impl<E: Eeprom> PageStore<E> {
     /// A store on this device of 71,680 bytes. A recovery is due.
     pub fn new(eeprom: E) -> PageStore<E>
         requires { E.byte_count eeprom ≡ DEVICE_SIZE }
-        ensures { result ≡ record { device = eeprom; known = Known.Nothing; programs = 0; commits = 0; is_ready = false } }
+        ensures { result ≡ record { device = eeprom; known = Known.Nothing; programs = 0; commits = 0; reads = 0; recoveries = 0; is_ready = false } }
     {
         PageStore {
             journal: Journal::new(eeprom),
             known: Known::Nothing,
             commits: 0,
+            reads: 0,
+            recoveries: 0,
         }
     }
 
@@ -85,6 +91,10 @@ impl<E: Eeprom> Store for PageStore<E> {
 
     ghost commits = { λ store. store.commits };
 
+    ghost reads = { λ store. store.reads };
+
+    ghost recoveries = { λ store. store.recoveries };
+
     ghost recovered = { λ store. is_recovered store.known store.is_ready (E.contents store.device) };
 
     ghost told_length = { λ store. told_content (stable (E.contents store.device)) };
@@ -105,6 +115,7 @@ impl<E: Eeprom> Store for PageStore<E> {
         ensures ok { OnOk result (IfSome (content (stable (E.contents self.old.device)))
             (λ held. out.new ≡ slice_range held at (at + length out.old))) }
         ensures keeps { HoldsTheSame (λ _. CONTENT_SIZE) (λ _. 1) (λ store. content (stable (E.contents store.device))) (λ store. store.commits) self.old self.new }
+        ensures asked { IsAsked (λ store. store.reads) (λ store. store.recoveries) self.old self.new 1 0 }
         ensures ready { OnOk result (is_recovered self.new.known self.new.is_ready (E.contents self.new.device) ≡ true) }
         ensures cause { HasCause (E.meter self.old.device) (E.meter self.new.device) result }
         ensures off { (E.meter self.old.device).powered ≡ false →
@@ -117,6 +128,7 @@ impl<E: Eeprom> Store for PageStore<E> {
         ensures calls { self.new.programs ≡ self.old.programs }
         ensures pages { self.new.known ≡ self.old.known }
     {
+        self.reads = self.reads.saturating_add(1);
         paged::read(&mut self.journal, &self.known, at, out)
     }
 
@@ -126,6 +138,7 @@ impl<E: Eeprom> Store for PageStore<E> {
         requires usable { All (IsUsablePiece CONTENT_SIZE) writes.now }
         ensures writes { CommitsPieces (λ store. content (stable (E.contents store.device))) (λ store. store.commits) writes.now self.old self.new result }
         ensures keeps { StaysItself (λ _. CONTENT_SIZE) (λ _. 1) (λ store. content (stable (E.contents store.device))) self.old self.new }
+        ensures asked { IsAsked (λ store. store.reads) (λ store. store.recoveries) self.old self.new 0 0 }
         ensures ready { OnOk result (is_recovered self.new.known self.new.is_ready (E.contents self.new.device) ≡ true) }
         ensures cause { HasCause (E.meter self.old.device) (E.meter self.new.device) result }
         ensures off { (E.meter self.old.device).powered ≡ false →
@@ -153,6 +166,7 @@ impl<E: Eeprom> Store for PageStore<E> {
         requires usable { IsUsable CONTENT_SIZE at (length bytes.now) }
         ensures writes { PreparesBytes (λ store. content (stable (E.contents store.device))) (λ store. store.commits) at bytes.now self.old self.new result }
         ensures keeps { StaysItself (λ _. CONTENT_SIZE) (λ _. 1) (λ store. content (stable (E.contents store.device))) self.old self.new }
+        ensures asked { IsAsked (λ store. store.reads) (λ store. store.recoveries) self.old self.new 0 0 }
         ensures ready { OnOk result (is_recovered self.new.known self.new.is_ready (E.contents self.new.device) ≡ true) }
         ensures cause { HasCause (E.meter self.old.device) (E.meter self.new.device) result }
         ensures off { (E.meter self.old.device).powered ≡ false →
@@ -171,6 +185,7 @@ impl<E: Eeprom> Store for PageStore<E> {
 
     fn recover(&mut self) -> Result<(), StoreFault>
         ensures keeps { HoldsTheSame (λ _. CONTENT_SIZE) (λ _. 1) (λ store. content (stable (E.contents store.device))) (λ store. store.commits) self.old self.new }
+        ensures asked { IsAsked (λ store. store.reads) (λ store. store.recoveries) self.old self.new 0 1 }
         ensures ready { OnOk result (is_recovered self.new.known self.new.is_ready (E.contents self.new.device) ≡ true) }
         ensures cause { HasCause (E.meter self.old.device) (E.meter self.new.device) result }
         ensures off { (E.meter self.old.device).powered ≡ false →
@@ -186,12 +201,14 @@ impl<E: Eeprom> Store for PageStore<E> {
         // The map that is known is that of the device, and the free pages stand in ascending order.
         ensures pages { OnOk result (IfSome (stable (E.contents self.new.device)) (λ image. self.new.known ≡ known_of (map_of image))) }
     {
+        self.recoveries = self.recoveries.saturating_add(1);
         paged::recover(&mut self.journal, &mut self.known)
     }
 
     fn power_up(&mut self)
         ensures power { E.meter self.new.device ≡ record (E.meter self.old.device) { powered = true } }
         ensures keeps { HoldsTheSame (λ _. CONTENT_SIZE) (λ _. 1) (λ store. content (stable (E.contents store.device))) (λ store. store.commits) self.old self.new }
+        ensures asked { IsAsked (λ store. store.reads) (λ store. store.recoveries) self.old self.new 0 0 }
         ensures ready { is_recovered self.new.known self.new.is_ready (E.contents self.new.device) ≡ is_recovered self.old.known self.old.is_ready (E.contents self.old.device) }
         // Nothing is programmed, and no page moves.
         ensures calls { self.new.programs ≡ self.old.programs }
@@ -203,6 +220,7 @@ impl<E: Eeprom> Store for PageStore<E> {
     fn arm(&mut self, plan: Plan)
         ensures plan { E.meter self.new.device ≡ armed (E.meter self.old.device) plan }
         ensures keeps { HoldsTheSame (λ _. CONTENT_SIZE) (λ _. 1) (λ store. content (stable (E.contents store.device))) (λ store. store.commits) self.old self.new }
+        ensures asked { IsAsked (λ store. store.reads) (λ store. store.recoveries) self.old self.new 0 0 }
         ensures ready { is_recovered self.new.known self.new.is_ready (E.contents self.new.device) ≡ is_recovered self.old.known self.old.is_ready (E.contents self.old.device) }
         // Nothing is programmed, and no page moves.
         ensures calls { self.new.programs ≡ self.old.programs }

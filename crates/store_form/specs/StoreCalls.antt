@@ -2,6 +2,7 @@
 -- it holds for good, where it tells them, and how many commits it counted.
 use Rattle.std.specs.Prelude.{◌≡◌, ◌⊎◌, ℕ, List, length, Option, option_map, is_some, Result, OnOk, OnErr}
 use Rattle.list_laws.specs.Patches.{patched, Torn}
+use Rattle.uicc_types.specs.Counts.{raised_by}
 use Rattle.uicc_types.specs.Told.{Becomes}
 use Rattle.store_form.specs.declared.store.StoreFault.{StoreFault}
 use Rattle.store_form.specs.Faults.{with_commit}
@@ -31,6 +32,15 @@ pub record HoldsTheSame {S : Type 0} (size_of mark_of : S → ℕ) (told_by : S 
   pub mark : mark_of new ≡ mark_of old
   -- as many commits are counted as before
   pub commits : commits_of new ≡ commits_of old
+
+-- ---- what a call asks for
+
+-- a call that asks the store for so many reads and so many recoveries, however it ends
+pub record IsAsked {S : Type 0} (reads_of recoveries_of : S → ℕ) (old new : S) (times_read times_recovered : ℕ) : Type 0 where
+  -- so many more reads are counted
+  pub reads : reads_of new ≡ raised_by times_read (reads_of old)
+  -- so many more recoveries are counted
+  pub recoveries : recoveries_of new ≡ raised_by times_recovered (recoveries_of old)
 
 -- ---- what a call writes
 

@@ -4,7 +4,7 @@ ghost use Rattle.uicc_types.specs.Counts.{Meter, armed};
 ghost use Rattle.uicc_types.specs.Told.{AreBytes};
 ghost use Rattle.store_form.specs.Faults.{HasCause};
 ghost use Rattle.store_form.specs.Pieces.{IsUsable, IsUsablePiece};
-ghost use Rattle.store_form.specs.StoreCalls.{CommitsPieces, HoldsTheSame, PreparesBytes, StaysItself};
+ghost use Rattle.store_form.specs.StoreCalls.{CommitsPieces, HoldsTheSame, IsAsked, PreparesBytes, StaysItself};
 
 use crate::writes::Writes;
 use uicc_types::Plan;
@@ -44,6 +44,12 @@ pub trait Store {
     /// How many commits it answered with Ok, in 64 bits; at its end the count stands still.
     ghost commits: { Self → ℕ };
 
+    /// How many reads were asked of it, however they ended, in 64 bits; at its end the count stands still.
+    ghost reads: { Self → ℕ };
+
+    /// How many recoveries were asked of it, however they ended, in 64 bits; at its end the count stands still.
+    ghost recoveries: { Self → ℕ };
+
     /// No recovery is due.
     ghost recovered: { Self → Bool };
 
@@ -60,6 +66,7 @@ pub trait Store {
         ensures ok { OnOk result (IfSome (stable self.old)
             (λ held. out.new ≡ slice_range held at (at + length out.old))) }
         ensures keeps { HoldsTheSame byte_count store_mark stable commits self.old self.new }
+        ensures asked { IsAsked reads recoveries self.old self.new 1 0 }
         ensures ready { OnOk result (recovered self.new ≡ true) }
         ensures cause { HasCause (meter self.old) (meter self.new) result }
         ensures off { (meter self.old).powered ≡ false →
@@ -73,6 +80,7 @@ pub trait Store {
         requires usable { All (IsUsablePiece (byte_count self.old)) writes.now }
         ensures writes { CommitsPieces stable commits writes.now self.old self.new result }
         ensures keeps { StaysItself byte_count store_mark stable self.old self.new }
+        ensures asked { IsAsked reads recoveries self.old self.new 0 0 }
         ensures ready { OnOk result (recovered self.new ≡ true) }
         ensures cause { HasCause (meter self.old) (meter self.new) result }
         ensures off { (meter self.old).powered ≡ false →
@@ -85,6 +93,7 @@ pub trait Store {
         requires usable { IsUsable (byte_count self.old) at (length bytes.now) }
         ensures writes { PreparesBytes stable commits at bytes.now self.old self.new result }
         ensures keeps { StaysItself byte_count store_mark stable self.old self.new }
+        ensures asked { IsAsked reads recoveries self.old self.new 0 0 }
         ensures ready { OnOk result (recovered self.new ≡ true) }
         ensures cause { HasCause (meter self.old) (meter self.new) result }
         ensures off { (meter self.old).powered ≡ false →
@@ -94,6 +103,7 @@ pub trait Store {
     /// Ends a commit that a fault interrupted, if there is one, and makes the store ready.
     fn recover(&mut self) -> Result<(), StoreFault>
         ensures keeps { HoldsTheSame byte_count store_mark stable commits self.old self.new }
+        ensures asked { IsAsked reads recoveries self.old self.new 0 1 }
         ensures ready { OnOk result (recovered self.new ≡ true) }
         ensures cause { HasCause (meter self.old) (meter self.new) result }
         ensures off { (meter self.old).powered ≡ false →
@@ -104,12 +114,14 @@ pub trait Store {
     fn power_up(&mut self)
         ensures power { meter self.new ≡ record (meter self.old) { powered = true } }
         ensures keeps { HoldsTheSame byte_count store_mark stable commits self.old self.new }
+        ensures asked { IsAsked reads recoveries self.old self.new 0 0 }
         ensures ready { recovered self.new ≡ recovered self.old };
 
     /// Sets the plan of faults of its device.
     fn arm(&mut self, plan: Plan)
         ensures plan { meter self.new ≡ armed (meter self.old) plan }
         ensures keeps { HoldsTheSame byte_count store_mark stable commits self.old self.new }
+        ensures asked { IsAsked reads recoveries self.old self.new 0 0 }
         ensures ready { recovered self.new ≡ recovered self.old };
 
     /// What it tells are all its bytes.

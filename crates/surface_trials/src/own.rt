@@ -64,6 +64,10 @@ impl<S: Store> Store for Own<S> {
 
     ghost commits = { λ own. S.commits own };
 
+    ghost reads = { λ own. S.reads own };
+
+    ghost recoveries = { λ own. S.recoveries own };
+
     ghost recovered = { λ own. S.recovered own };
 
     ghost told_length = { λ own. S.told_length own };

@@ -4,7 +4,7 @@ ghost use Rattle.list_laws.specs.Patches.{patched};
 ghost use Rattle.uicc_types.specs.Counts.{armed};
 ghost use Rattle.store_form.specs.Faults.{HasCause};
 ghost use Rattle.store_form.specs.Pieces.{IsUsable, IsUsablePiece};
-ghost use Rattle.store_form.specs.StoreCalls.{CommitsPieces, HoldsTheSame, PreparesBytes, StaysItself};
+ghost use Rattle.store_form.specs.StoreCalls.{CommitsPieces, HoldsTheSame, IsAsked, PreparesBytes, StaysItself};
 ghost use Rattle.update_journal.specs.Calls.{calls_at, calls_to_commit, calls_to_recover, MadeAtMost, MakesCalls};
 ghost use Rattle.update_journal.specs.Journal.{is_open, is_recovered, stable, committed, recovered_image};
 ghost use Rattle.update_journal.specs.Laws.{told_stable, told_own};
@@ -18,11 +18,13 @@ use store_form::{OWN_END, Store, StoreFault, Writes};
 use uicc_types::Plan;
 
 /// A store on a device of at least 832 bytes. What a contract sees of it is its device, the counts of the program calls that it made of
-/// that and of its commits, and whether it takes no recovery to be due.
+/// that, of its commits, and of the reads and recoveries that were asked of it, and whether it takes no recovery to be due.
 #[derive(Debug, Drop)]
 pub struct Journal<E: Eeprom> {
     counted: CountedDevice<E>,
     commits: u64,
+    reads: u64,
+    recoveries: u64,
     is_ready: bool,
 }
 
@@ -35,6 +37,8 @@ impl<E: Eeprom> Model for Journal<E> {
       device = journal.counted.eeprom;
       programs = journal.counted.programs;
       commits = journal.commits;
+      reads = journal.reads;
+      recoveries = journal.recoveries;
       is_ready = journal.is_ready;
     } };
 
@@ -46,11 +50,13 @@ impl<E: Eeprom> Journal<E> {
     /// A journal on this device. Whether a commit is to be ended is not known yet: a recovery is due.
     pub fn new(eeprom: E) -> Journal<E>
         requires { OWN_END ≤ E.byte_count eeprom }
-        ensures { result ≡ record { device = eeprom; programs = 0; commits = 0; is_ready = false } }
+        ensures { result ≡ record { device = eeprom; programs = 0; commits = 0; reads = 0; recoveries = 0; is_ready = false } }
     {
         Journal {
             counted: CountedDevice::new(eeprom),
             commits: 0,
+            reads: 0,
+            recoveries: 0,
             is_ready: false,
         }
     }
@@ -75,6 +81,10 @@ impl<E: Eeprom> Store for Journal<E> {
 
     ghost commits = { λ journal. journal.commits };
 
+    ghost reads = { λ journal. journal.reads };
+
+    ghost recoveries = { λ journal. journal.recoveries };
+
     ghost recovered = { λ journal. is_recovered journal.is_ready (E.contents journal.device) };
 
     ghost told_length = { λ journal.
@@ -96,6 +106,7 @@ impl<E: Eeprom> Store for Journal<E> {
         ensures ok { OnOk result (IfSome (stable (E.contents self.old.device))
             (λ held. out.new ≡ slice_range held at (at + length out.old))) }
         ensures keeps { HoldsTheSame (λ journal. E.byte_count journal.device) (λ _. 0) (λ journal. stable (E.contents journal.device)) (λ journal. journal.commits) self.old self.new }
+        ensures asked { IsAsked (λ journal. journal.reads) (λ journal. journal.recoveries) self.old self.new 1 0 }
         ensures ready { OnOk result (is_recovered self.new.is_ready (E.contents self.new.device) ≡ true) }
         ensures cause { HasCause (E.meter self.old.device) (E.meter self.new.device) result }
         ensures off { (E.meter self.old.device).powered ≡ false →
@@ -108,6 +119,7 @@ impl<E: Eeprom> Store for Journal<E> {
         ensures calls { self.new.programs ≡ self.old.programs }
         ensures left { E.contents self.new.device ≡ E.contents self.old.device }
     {
+        self.reads = self.reads.saturating_add(1);
         self.is_ready = false;
         device::read(&mut self.counted, at, out)?;
         self.is_ready = true;
@@ -120,6 +132,7 @@ impl<E: Eeprom> Store for Journal<E> {
         requires usable { All (IsUsablePiece (E.byte_count self.old.device)) writes.now }
         ensures writes { CommitsPieces (λ journal. stable (E.contents journal.device)) (λ journal. journal.commits) writes.now self.old self.new result }
         ensures keeps { StaysItself (λ journal. E.byte_count journal.device) (λ _. 0) (λ journal. stable (E.contents journal.device)) self.old self.new }
+        ensures asked { IsAsked (λ journal. journal.reads) (λ journal. journal.recoveries) self.old self.new 0 0 }
         ensures ready { OnOk result (is_recovered self.new.is_ready (E.contents self.new.device) ≡ true) }
         ensures cause { HasCause (E.meter self.old.device) (E.meter self.new.device) result }
         ensures off { (E.meter self.old.device).powered ≡ false →
@@ -145,6 +158,7 @@ impl<E: Eeprom> Store for Journal<E> {
         requires usable { IsUsable (E.byte_count self.old.device) at (length bytes.now) }
         ensures writes { PreparesBytes (λ journal. stable (E.contents journal.device)) (λ journal. journal.commits) at bytes.now self.old self.new result }
         ensures keeps { StaysItself (λ journal. E.byte_count journal.device) (λ _. 0) (λ journal. stable (E.contents journal.device)) self.old self.new }
+        ensures asked { IsAsked (λ journal. journal.reads) (λ journal. journal.recoveries) self.old self.new 0 0 }
         ensures ready { OnOk result (is_recovered self.new.is_ready (E.contents self.new.device) ≡ true) }
         ensures cause { HasCause (E.meter self.old.device) (E.meter self.new.device) result }
         ensures off { (E.meter self.old.device).powered ≡ false →
@@ -166,6 +180,7 @@ impl<E: Eeprom> Store for Journal<E> {
 
     fn recover(&mut self) -> Result<(), StoreFault>
         ensures keeps { HoldsTheSame (λ journal. E.byte_count journal.device) (λ _. 0) (λ journal. stable (E.contents journal.device)) (λ journal. journal.commits) self.old self.new }
+        ensures asked { IsAsked (λ journal. journal.reads) (λ journal. journal.recoveries) self.old self.new 0 1 }
         ensures ready { OnOk result (is_recovered self.new.is_ready (E.contents self.new.device) ≡ true) }
         ensures cause { HasCause (E.meter self.old.device) (E.meter self.new.device) result }
         ensures off { (E.meter self.old.device).powered ≡ false →
@@ -185,6 +200,7 @@ impl<E: Eeprom> Store for Journal<E> {
         // Each byte of the device, also of the journal's own.
         ensures left { OnOk result (E.contents self.new.device ≡ option_map recovered_image (E.contents self.old.device)) }
     {
+        self.recoveries = self.recoveries.saturating_add(1);
         self.is_ready = false;
         steps::recover(&mut self.counted)?;
         self.is_ready = true;
@@ -194,6 +210,7 @@ impl<E: Eeprom> Store for Journal<E> {
     fn power_up(&mut self)
         ensures power { E.meter self.new.device ≡ record (E.meter self.old.device) { powered = true } }
         ensures keeps { HoldsTheSame (λ journal. E.byte_count journal.device) (λ _. 0) (λ journal. stable (E.contents journal.device)) (λ journal. journal.commits) self.old self.new }
+        ensures asked { IsAsked (λ journal. journal.reads) (λ journal. journal.recoveries) self.old self.new 0 0 }
         ensures ready { is_recovered self.new.is_ready (E.contents self.new.device) ≡ is_recovered self.old.is_ready (E.contents self.old.device) }
         // Nothing is programmed.
         ensures calls { self.new.programs ≡ self.old.programs }
@@ -205,6 +222,7 @@ impl<E: Eeprom> Store for Journal<E> {
     fn arm(&mut self, plan: Plan)
         ensures plan { E.meter self.new.device ≡ armed (E.meter self.old.device) plan }
         ensures keeps { HoldsTheSame (λ journal. E.byte_count journal.device) (λ _. 0) (λ journal. stable (E.contents journal.device)) (λ journal. journal.commits) self.old self.new }
+        ensures asked { IsAsked (λ journal. journal.reads) (λ journal. journal.recoveries) self.old self.new 0 0 }
         ensures ready { is_recovered self.new.is_ready (E.contents self.new.device) ≡ is_recovered self.old.is_ready (E.contents self.old.device) }
         // Nothing is programmed.
         ensures calls { self.new.programs ≡ self.old.programs }

@@ -18,12 +18,13 @@ returns g c = record {
     keeps = record {
       mounted =
           on_ok_weaker c.commit.result
-          (λ both. mounted_after _ _ _ _ c.args.loaded.now table c.args.writes.now change c.requires.mounted.agrees c.commit.ensures.keeps.mark commits c.stores_stand.ensures.written both.0 _ _ _ _ both.1
+          (λ both. mounted_after _ _ _ _ c.args.loaded.now table c.args.writes.now change c.requires.mounted.agrees c.commit.ensures.keeps.mark commits c.stores_stand.ensures.written both.0 _ _ _ _ _ _ both.1
           (c.commit.ensures.keeps.size ∙ c.requires.mounted.size_is))
           (on_ok_both _ _ c.commit.result c.commit.ensures.writes.ok c.commit.ensures.ready);
       told = c.commit.ensures.keeps.told;
       size = c.commit.ensures.keeps.size;
       mark = c.commit.ensures.keeps.mark;
+      recoveries = c.commit.ensures.asked.recoveries;
       cause = c.commit.ensures.cause;
     };
   };

@@ -15,6 +15,7 @@ loop-done-init g c = record {
   commits = refl;
   size = refl;
   mark = refl;
+  recoveries = refl;
   calm = calm_same (g.S.Store.meter c.args.store.now);
 }
 
@@ -44,5 +45,6 @@ loop-done-preserved g c =
       commits = c.in_ok-copy_part.ensures.commits ∙ c.loop-done.invariant.commits;
       size = c.in_ok-copy_part.ensures.keeps.size ∙ c.loop-done.invariant.size;
       mark = c.in_ok-copy_part.ensures.keeps.mark ∙ c.loop-done.invariant.mark;
+      recoveries = c.in_ok-copy_part.ensures.keeps.recoveries ∙ c.loop-done.invariant.recoveries;
       calm = caused_then _ (g.S.Store.meter c.loop-done.store) _ c.loop-done.invariant.calm (calm_ok _ _ (λ failed. cc) (λ lost. cc) c.in_ok-copy_part.ensures.keeps.cause);
     }

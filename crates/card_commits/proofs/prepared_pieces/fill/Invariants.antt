@@ -15,5 +15,6 @@ invariant-loop-done g l = record {
   commits : g.S.Store.commits l.store ≡ g.S.Store.commits l.initial.store;
   size : g.S.Store.byte_count l.store ≡ g.S.Store.byte_count l.initial.store;
   mark : g.S.Store.store_mark l.store ≡ g.S.Store.store_mark l.initial.store;
+  recoveries : g.S.Store.recoveries l.store ≡ g.S.Store.recoveries l.initial.store;
   calm : IsCalm (g.S.Store.meter l.initial.store) (g.S.Store.meter l.store);
 }

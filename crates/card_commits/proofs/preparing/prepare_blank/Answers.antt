@@ -13,4 +13,4 @@ returns-clause-prepares g c =
     (prepares c.stores_stand.ensures.torn c.cards_are_known.ensures.free _ _ c.from.result c.from-2.result c.requires.mounted free refl c.fill.ensures.keeps.mark c.fill.result
     (filled c.from.result c.from-2.result) (filled_keeps c.from.result c.from-2.result (free_inside c.args.loaded.now c.from.result c.from-2.result free))
     (whole_of (g.S.Store.stable c.args.store.now) (g.S.Store.byte_count c.args.store.now) c.requires.mounted.size_is (g.met.S.Store.told_length c.args.store.now)) c.fill.ensures.ok c.fill.ensures.torn
-    c.fill.ensures.keeps.told c.fill.ensures.keeps.size c.fill.ensures.commits c.fill.ensures.keeps.ready c.fill.ensures.keeps.cause)
+    c.fill.ensures.keeps.told c.fill.ensures.keeps.size c.fill.ensures.commits c.fill.ensures.keeps.recoveries c.fill.ensures.keeps.ready c.fill.ensures.keeps.cause)

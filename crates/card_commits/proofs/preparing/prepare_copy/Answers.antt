@@ -15,4 +15,4 @@ returns-clause-prepares g c =
     (prepares c.stores_stand.ensures.torn c.cards_are_known.ensures.free _ _ c.from-2.result c.from-3.result c.requires.mounted free refl c.copy.ensures.keeps.mark c.copy.result
     (copied c.from.result c.from-2.result c.from-3.result) (copied_keeps c.from.result c.from-2.result c.from-3.result source (free_inside c.args.loaded.now c.from-2.result c.from-3.result free))
     (whole_of (g.S.Store.stable c.args.store.now) (g.S.Store.byte_count c.args.store.now) c.requires.mounted.size_is (g.met.S.Store.told_length c.args.store.now)) c.copy.ensures.ok c.copy.ensures.torn
-    c.copy.ensures.keeps.told c.copy.ensures.keeps.size c.copy.ensures.commits c.copy.ensures.keeps.ready c.copy.ensures.keeps.cause)
+    c.copy.ensures.keeps.told c.copy.ensures.keeps.size c.copy.ensures.commits c.copy.ensures.keeps.recoveries c.copy.ensures.keeps.ready c.copy.ensures.keeps.cause)

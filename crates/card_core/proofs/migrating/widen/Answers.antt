@@ -35,6 +35,7 @@ returns-in-Ok-clause-committed g c =
         told = search rules;
         size = search rules;
         mark = search rules;
+        recoveries = search rules;
         cause = search rules;
       };
     }

@@ -27,6 +27,7 @@ returns-in-None-clause-reads g c = record {
     told = ap is_some c.mount.ensures.reads.stable;
     size = c.mount.ensures.reads.size;
     mark = c.mount.ensures.reads.mark;
+    recoveries = c.mount.ensures.reads.recoveries;
     cause = search rules;
   };
 }
@@ -60,6 +61,7 @@ returns-in-Some-clause-reads g c =
         told = ap is_some c.mount.ensures.reads.stable;
         size = c.mount.ensures.reads.size;
         mark = c.mount.ensures.reads.mark;
+        recoveries = c.mount.ensures.reads.recoveries;
         cause = search rules;
       };
     }
@@ -89,6 +91,7 @@ returns-in-Err-NotACard-clause-reads g c =
         told = ap is_some c.mount.ensures.reads.stable;
         size = c.mount.ensures.reads.size;
         mark = c.mount.ensures.reads.mark;
+        recoveries = c.mount.ensures.reads.recoveries;
         cause = search rules;
       };
     }

@@ -20,5 +20,5 @@ returns-in-InstallApplet-clause-keeps g c =
       table = kept.table;
       next = λ other. absurd (other c.in-InstallApplet.is);
       kept = kept.kept;
-      keeps = record { mounted = kept.keeps.mounted; told = kept.keeps.told; size = kept.keeps.size; mark = kept.keeps.mark; cause = kept.keeps.cause };
+      keeps = record { mounted = kept.keeps.mounted; told = kept.keeps.told; size = kept.keeps.size; mark = kept.keeps.mark; recoveries = kept.keeps.recoveries; cause = kept.keeps.cause };
     }

@@ -2,11 +2,13 @@
 use Rattle.std.proofs.Common.{◌≡◌, ℕ, List, Option, Some, refl, sym, ◌∙◌, ap, subst, rules, slice_set, unwrap_or, Ok, Err}
 use Rattle.std.proofs.lemmas.Bool.{false≢true}
 use Rattle.apdu_form.specs.Classes.{channel_of}
+use Rattle.store_form.specs.declared.store.StoreFault.{StoreFault}
 use Rattle.card_state.specs.Memory.{memory}
 use Rattle.card_state.specs.Standing.{Agrees}
 use Rattle.card_state.specs.States.{pins_of, rows_of}
 use Rattle.card_state.specs.declared.entries.Loaded.{Loaded}
 use Rattle.file_model.specs.Access.{keys_seen}
+use Rattle.file_model.specs.Binaries.{binary_to_read}
 use Rattle.file_model.specs.Channels.{selected_on}
 use Rattle.file_model.specs.Commands.{file_outcome}
 use Rattle.file_model.specs.Files.{descriptors_of}
@@ -16,6 +18,7 @@ use Rattle.file_model.specs.declared.commands.FileCommand.{FileCommand}
 use Rattle.file_model.specs.declared.selections.Selection.{Selection}
 use Rattle.file_model.specs.declared.selections.TheConstants.Selection.{AT_START}
 use Rattle.card_commits.specs.Laws.{IsTold}
+use Rattle.binary_commands.specs.Reads.{access_reads, ReadsOnce}
 use Rattle.record_commands.specs.Tables.{HasOtherFiles}
 use Rattle.card_model.specs.declared.instructions.Instruction.TheVariants.{File}
 use Rattle.card_core.specs.AnyStore.{RefusesFile, NeedsNoContents}
@@ -116,3 +119,19 @@ returns-in-Err-clause-acts g c =
 
 pub returns-in-Err-clause-table : goal.returns-in-Err-clause-table
 returns-in-Err-clause-table g c = c.in-Err.ensures.ends.table ∙ c.deref_mut.ensures.value
+
+pub returns-in-Ok-clause-asks : goal.returns-in-Ok-clause-asks
+returns-in-Ok-clause-asks g c = λ is file found.
+    let there : selected_on c.args.self.now.channels (channel_of c.args.apdu.now.class) ≡ Some c.in-Some.selection = ap (selected_on c.args.self.now.channels) (sym c.channel-channel.ensures) ∙ sym c.selected.ensures ∙ c.in-Some.is in
+    subst (λ (table : Loaded). ReadsOnce {X = Unit} {E = StoreFault} (Ok tt) c.on_files.new.out (access_reads (descriptors_of table) file) (g.S.Store.reads c.args.self.now.store) (g.S.Store.reads c.on_files.new.store)) c.deref_mut.ensures.value
+    (c.in-Ok.ensures.asks is file
+    (subst (λ (table : Loaded). binary_to_read (descriptors_of table) c.in-Some.selection c.args.apdu.now ≡ Ok file) (sym c.deref_mut.ensures.value)
+    (subst (λ (chosen : Option Selection). binary_to_read (descriptors_of c.args.self.now.loaded.value) (unwrap_or chosen AT_START) c.args.apdu.now ≡ Ok file) there found)))
+
+pub returns-in-Err-clause-asks : goal.returns-in-Err-clause-asks
+returns-in-Err-clause-asks g c = λ is file found.
+    let there : selected_on c.args.self.now.channels (channel_of c.args.apdu.now.class) ≡ Some c.in-Some.selection = ap (selected_on c.args.self.now.channels) (sym c.channel-channel.ensures) ∙ sym c.selected.ensures ∙ c.in-Some.is in
+    subst (λ (table : Loaded). ReadsOnce {X = Unit} (Err c.in-Err.fault) c.on_files.new.out (access_reads (descriptors_of table) file) (g.S.Store.reads c.args.self.now.store) (g.S.Store.reads c.on_files.new.store)) c.deref_mut.ensures.value
+    (c.in-Err.ensures.asks is file
+    (subst (λ (table : Loaded). binary_to_read (descriptors_of table) c.in-Some.selection c.args.apdu.now ≡ Ok file) (sym c.deref_mut.ensures.value)
+    (subst (λ (chosen : Option Selection). binary_to_read (descriptors_of c.args.self.now.loaded.value) (unwrap_or chosen AT_START) c.args.apdu.now ≡ Ok file) there found)))

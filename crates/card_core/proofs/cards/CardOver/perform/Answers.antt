@@ -7,6 +7,7 @@ use Rattle.card_model.specs.Answers.{answer, passed}
 use Rattle.card_model.specs.Runs.{IsLeft}
 use Rattle.card_core.specs.Acting.{in_whole, ActsAs}
 use Rattle.card_core.specs.AnyStore.{command_named}
+use Rattle.card_core.specs.BinaryReads.{ReadsBinaryOnce}
 use Rattle.card_core.specs.Cards.{parts_of, card_of, card_due}
 use Rattle.card_core.proofs.CardOfLemmas.{card_told, due_told}
 use Rattle.card_core.proofs.RestartLemmas.{due_is}
@@ -83,3 +84,16 @@ returns-in-Ok-clause-acts g c = λ rests.
 
 pub returns-in-Err-clause-acts : goal.returns-in-Err-clause-acts
 returns-in-Err-clause-acts g c = λ rests. absurd (false≢true (c.in-Err.ensures.stays rests).0)
+
+pub returns-in-Ok-clause-recovers : goal.returns-in-Ok-clause-recovers
+returns-in-Ok-clause-recovers g c = record {
+  due = λ is. c.carry_out.ensures.goes_on.others.recoveries ∙ c.catch_up.ensures.recovers.due is;
+  rests = λ is. c.carry_out.ensures.goes_on.others.recoveries ∙ c.catch_up.ensures.recovers.rests is;
+}
+
+pub returns-in-Ok-clause-asks : goal.returns-in-Ok-clause-asks
+returns-in-Ok-clause-asks g c = λ rests.
+    subst (λ each. ReadsBinaryOnce c.carry_out.result (parts_of g.S.Store g.B.Applet each) (parts_of g.S.Store g.B.Applet c.carry_out.new.self) c.args.apdu.now c.carry_out.new.out) (c.in-Ok.ensures.stays rests).1 c.carry_out.ensures.asks
+
+pub returns-in-Err-clause-asks : goal.returns-in-Err-clause-asks
+returns-in-Err-clause-asks g c = λ rests. absurd (false≢true (c.in-Err.ensures.stays rests).0)

@@ -1,6 +1,6 @@
 -- The card started again is the one due, which is the old card after a reset: power_up moves no bytes, and only PowerLost ends it off.
-use Rattle.std.proofs.Common.{true, false, refl, sym, ◌∙◌, ap, rules, true≢false}
-use Rattle.uicc_types.specs.Counts.{Meter}
+use Rattle.std.proofs.Common.{ℕ, true, false, refl, sym, ◌∙◌, ap, subst, rules, true≢false}
+use Rattle.uicc_types.specs.Counts.{Meter, Rose, raised}
 use Rattle.card_core.specs.Cards.{parts_of, card_of}
 use Rattle.card_core.proofs.RestartLemmas.{boxes_there, held_moved, on_same, due_moved, due_restarted, ready_with, read_from, good_restarted, not_lost, ok_not_lost}
 use Rattle.card_core.proofs.cards.CardOver.reset.Goals as goal
@@ -63,3 +63,15 @@ returns-in-Ok-clause-resets g c = record {
   failed = search rules;
   off = search rules;
 }
+
+pub returns-in-Ok-clause-starts : goal.returns-in-Ok-clause-starts
+returns-in-Ok-clause-starts g c = record {
+  recovered = c.restart.ensures.starts.recovered ∙ ap raised c.power_up.ensures.asked.recoveries;
+  read = subst (λ (before : ℕ). Rose before (parts_of g.S.Store g.B.Applet c.restart.new.self).reads) c.power_up.ensures.asked.reads c.in-Ok.ensures.starts.read;
+}
+
+pub returns-in-Err-Failed-clause-starts : goal.returns-in-Err-Failed-clause-starts
+returns-in-Err-Failed-clause-starts g c = record { recovered = c.restart.ensures.starts.recovered ∙ ap raised c.power_up.ensures.asked.recoveries; read = tt }
+
+pub returns-in-Err-PowerLost-clause-starts : goal.returns-in-Err-PowerLost-clause-starts
+returns-in-Err-PowerLost-clause-starts g c = record { recovered = c.restart.ensures.starts.recovered ∙ ap raised c.power_up.ensures.asked.recoveries; read = tt }

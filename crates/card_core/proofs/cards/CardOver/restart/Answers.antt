@@ -63,8 +63,16 @@ returns-in-Err-clause-restarted g c =
       told = g.S.Store.stable c.wake_again.new.store;
       meter = g.S.Store.meter c.wake_again.new.store;
       commits = g.S.Store.commits c.wake_again.new.store;
+      reads = g.S.Store.reads c.wake_again.new.store;
+      recoveries = g.S.Store.recoveries c.wake_again.new.store;
       table = c.wake_again.new.loaded;
       boxes = minds_of g.B.Applet.mind (with_items c.args.self.now.boxes c.wake_again.new.boxes).items;
       is_due = true;
     } in
     due_same old new refl c.wake_again.ensures.reads.keeps.mark c.wake_again.ensures.reads.stable (ap (minds_of g.B.Applet.mind) (with_items_is c.args.self.now.boxes c.wake_again.new.boxes (c.wake_again.auto.boxes ∙ c.deref_mut-2.ensures.len) ∙ c.in-Err.ensures.asleep ∙ c.deref_mut-2.ensures.value)) refl
+
+pub returns-in-Ok-clause-starts : goal.returns-in-Ok-clause-starts
+returns-in-Ok-clause-starts g c = record { recovered = c.wake_again.ensures.reads.keeps.recoveries; read = c.in-Ok.ensures.read }
+
+pub returns-in-Err-clause-starts : goal.returns-in-Err-clause-starts
+returns-in-Err-clause-starts g c = record { recovered = c.wake_again.ensures.reads.keeps.recoveries; read = tt }

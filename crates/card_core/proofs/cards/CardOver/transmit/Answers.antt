@@ -1,8 +1,12 @@
 -- After a fault the card is the one due, and all but power stays as perform left it; no command answers 6581 of itself.
-use Rattle.std.proofs.Common.{◌≡◌, [], length, Option, true, refl, sym, ◌∙◌, ap, subst, Err, inl, inr, Ok, IfSome, IsSomeAnd}
+use Rattle.std.proofs.Common.{◌≡◌, ◌⊎◌, ℕ, arith, [], length, Option, true, refl, sym, ◌∙◌, ap, subst, Err, inl, inr, Ok, IfSome, IsSomeAnd}
 use Rattle.std.proofs.lemmas.Bool.{false≢true}
+use Rattle.std.proofs.lemmas.Result.{on_ok_weaker}
 use Rattle.list_laws.proofs.IfSomeLemmas.{on_err}
+use Rattle.uicc_types.specs.Counts.{raised, raised_by}
 use Rattle.uicc_types.specs.declared.answers.StatusWord.{StatusWord}
+use Rattle.file_model.specs.Files.{descriptors_of}
+use Rattle.binary_commands.specs.Reads.{access_reads}
 use Rattle.card_commits.specs.Performing.{CommitsAtMost}
 use Rattle.card_model.specs.States.{CardState}
 use Rattle.card_model.specs.Answers.{passed, answer}
@@ -147,3 +151,24 @@ returns-in-Ok-clause-untouched g c = left_alone (parts_of g.S.Store g.B.Applet c
 
 pub returns-in-Err-clause-untouched : goal.returns-in-Err-clause-untouched
 returns-in-Err-clause-untouched g c = left_alone (parts_of g.S.Store g.B.Applet c.args.self.now) c.args.apdu.now _ c.if-not-self.false (λ status rests named. absurd (false≢true ((c.in-Err.ensures.acts rests).refused status named).0))
+
+pub returns-in-Err-clause-recovers : goal.returns-in-Err-clause-recovers
+returns-in-Err-clause-recovers g c = λ on.
+    let same = ap (λ card. (parts_of g.S.Store g.B.Applet card).recoveries) c.fail.ensures.others in
+    record { due = λ is. same ∙ c.perform.ensures.recovers.due is; rests = λ is. same ∙ c.perform.ensures.recovers.rests is }
+
+pub returns-in-Ok-clause-asks : goal.returns-in-Ok-clause-asks
+returns-in-Ok-clause-asks g c = λ on rests apdu read named file found.
+    let once = c.in-Ok.ensures.asks rests apdu read named file found in
+    record { denied = once.denied; most = once.most }
+
+pub returns-in-Err-clause-asks : goal.returns-in-Err-clause-asks
+returns-in-Err-clause-asks g c = λ on rests apdu read named file found.
+    let once = c.in-Err.ensures.asks rests apdu read named file found in
+    let granted = raised_by (access_reads (descriptors_of c.args.self.now.loaded.value) file) (g.S.Store.reads c.args.self.now.store) in
+    record {
+      denied =
+          on_ok_weaker c.fail.result (λ other is. other (λ failed. let both : 0x6982 ≡ 0x6581 = ap (λ (word : StatusWord). word.0) (sym is ∙ failed) in omega (arith, both)))
+          (failed_first ((parts_of g.S.Store g.B.Applet c.fail.new.self).reads ≡ granted) c.in-Err.fault c.fail.result c.fail.new.out.status c.fail.ensures.failed c.fail.ensures.lost);
+      most = subst (λ (now : ℕ). (now ≡ granted) ⊎ (now ≡ raised granted)) (sym (ap (λ card. (parts_of g.S.Store g.B.Applet card).reads) c.fail.ensures.others)) once.most;
+    }
