@@ -1,9 +1,10 @@
 -- The bytes that a window holds, after a write past them or a step of their start.
-use Rattle.std.proofs.Common.{◌≡◌, ◌==◌, true, slice_index, Option, Some, None, MatchOption, ℕ, ◌+◌, ◌-◌, ◌≤◌, List, ◌++◌, length, take, drop, get_or, slice_range, inl, inr, sym, ap, ◌∙◌, refl, arith, take-add}
+use Rattle.std.proofs.Common.{◌≡◌, ◌<◌, ◌==◌, true, slice_index, Option, Some, None, MatchOption, ℕ, ◌+◌, ◌-◌, ◌≤◌, List, ◌++◌, length, take, drop, get_or, slice_range, inl, inr, sym, ap, ◌∙◌, refl, arith, take-add, length-append, append_assoc}
 use Rattle.std.proofs.lemmas.List.{take_at, drop_at, take-append-le, drop-append-le, drop-take, drop-drop, length-take-le, length-drop, get_or-drop}
 use Rattle.std.proofs.lemmas.Bool.{cases_lt}
 use Rattle.memchr.specs.Find.{IsFirstByte, is_byte}
-use Rattle.byte_streams.specs.Search.{IsFirstEnd, NoEndBelow}
+use Rattle.std.specs.Io.KnownBytes.{prepend_known}
+use Rattle.byte_streams.specs.Search.{IsFirstEnd, NoEndBelow, TakesMore}
 use Rattle.arrayvec.specs.ArrayVec.{ArrayVec, array_vec_len, with_items}
 use Rattle.arrayvec.proofs.ArrayVecLemmas.{items-with_items}
 use borrow.Rule.Slice.PartMut.{put_mid, mid_of, post_of, same_len_mid}
@@ -42,6 +43,27 @@ let_go xs start end count inside =
     let parts : end - start ≡ count + (end - (start + count)) = omega arith in
     sym (ap (λ j. drop count (take j (drop start xs))) parts ∙ drop-take count _ (drop start xs)
     ∙ ap (take (end - (start + count))) (drop-drop count start xs))
+
+prepended : (front back : List ℕ) (known : Option (List ℕ)) → prepend_known front (prepend_known back known) ≡ prepend_known (front ++ back) known
+prepended front back None = refl
+prepended front back (Some bytes) = ap Some (sym (append_assoc front back bytes))
+
+-- what is held grew once more, by the part that was taken last
+pub takes_more : (old middle new : List ℕ) (left passed left_then : Option (List ℕ)) (part : List ℕ) → TakesMore old left middle passed
+    → new ≡ middle ++ part → passed ≡ prepend_known part left_then → TakesMore old left new left_then
+takes_more old middle new left passed left_then part before held handed = record {
+  part = before.part ++ part;
+  held = held ∙ ap (λ (xs : List ℕ). xs ++ part) before.held ∙ append_assoc old before.part part;
+  handed = before.handed ∙ ap (prepend_known before.part) handed ∙ prepended before.part part left_then;
+}
+
+-- no more bytes are held than there was room for
+pub stays_small : (middle part new shown : List ℕ) (count most : ℕ) → new ≡ middle ++ part → length part ≡ count → shown ≡ middle
+    → length shown < most → count ≤ most - length shown → length new ≤ most
+stays_small middle part new shown count most held size same room within =
+    let longer : length new ≡ length middle + length part = ap (λ (xs : List ℕ). length xs) held ∙ length-append middle part in
+    let as_long = ap (λ (xs : List ℕ). length xs) same in
+    omega (arith, longer, as_long, size, room, within)
 
 -- no line ends in a front, and none in the bytes after it
 pub none_joined : (held : List ℕ) (from count : ℕ) → NoEndBelow held from → NoEndBelow (drop from held) count → NoEndBelow held (from + count)

@@ -1,7 +1,7 @@
 -- What a change of the block makes of the frames in it.
 use Rattle.std.proofs.Common.{◌≡◌, refl, sym, ap, ap₂, subst, ◌∙◌, ℕ, zero, suc, ◌+◌, ◌-◌, ◌*◌, ◌^◌, ◌<◌, ◌≤◌, List, [], ◌∷◌, ◌++◌, length, take, drop, get_or, remove, slice_range, arith, length-append, length-drop, append_assoc, take-append-drop, append-nil}
 use Rattle.std.proofs.Math.Seq.{take-append_seam, take-append-add, drop-append_seam, drop-append-add, paste}
-use Rattle.std.proofs.lemmas.List.{drop-drop, length-take-le, take-take, take_all, drop-take}
+use Rattle.std.proofs.lemmas.List.{drop-drop, length-take-le, take-take, take_all, take_at, drop-take}
 use Rattle.frame_store.specs.Model.{Frames, bytes_in, length_bytes, length_in, laid, in_line, frames_of, AreKept}
 use Rattle.frame_store.proofs.InLineLemmas.{length-length_bytes, length_in-length_bytes, behind_length, length-laid, laid-append, in_line-append, in_line-one, length-in_line, bytes_in-cons, count_of, none_of, in_line-none, frames_of-in_line, remove_is, in_line_at}
 
@@ -215,3 +215,25 @@ length_removed (part ∷ parts) (suc at) inside =
 
 pub length_pushed : (parts : List (List ℕ)) (part : List ℕ) → length (parts ++ part ∷ []) ≡ length parts + 1
 length_pushed parts part = length-append parts (part ∷ [])
+
+-- what stands in a block after bytes were written over those from a place on
+pub overwritten : (items bytes new : List ℕ) (at len : ℕ) → len ≡ length items → at + length bytes ≤ len → new ≡ bytes
+    → take len (take at items ++ (new ++ drop (length new) (drop at items)) ++ drop (length (take at items ++ (new ++ drop (length new) (drop at items)))) items)
+    ≡ take at items ++ (bytes ++ drop (at + length bytes) items)
+overwritten items bytes new at len whole inside same =
+    let front = take at items in
+    let back = drop (length new) (drop at items) in
+    let size = ap (λ (xs : List ℕ). length xs) same in
+    let front_size = length-take-le at items (omega (arith, whole, inside)) in
+    let back_size : length back ≡ length items - at - length new = length-drop (length new) (drop at items) ∙ ap (λ (n : ℕ). n - length new) (length-drop at items) in
+    let all : length (front ++ (new ++ back)) ≡ len =
+    omega (arith, length-append front (new ++ back), length-append new back, front_size, back_size, size, whole, inside) in
+    take_at (front ++ (new ++ back)) (drop (length (front ++ (new ++ back))) items) len all
+    ∙ ap (λ (xs : List ℕ). front ++ (xs ++ drop (length xs) (drop at items))) same
+    ∙ ap (λ (rest : List ℕ). front ++ (bytes ++ rest)) (drop-drop (length bytes) at items)
+
+pub overwritten_length : (items bytes : List ℕ) (at : ℕ) → at + length bytes ≤ length items
+    → length (take at items ++ (bytes ++ drop (at + length bytes) items)) ≡ length items
+overwritten_length items bytes at inside =
+    let rest = drop (at + length bytes) items in
+    omega (arith, length-append (take at items) (bytes ++ rest), length-append bytes rest, length-take-le at items (omega (arith, inside)), length-drop (at + length bytes) items)

@@ -134,3 +134,10 @@ FindsFirst_second xs ys (Err at) none found = first_failed-append xs ys none ∙
 pub found_both : (r : Result (Unit {0}) ℕ) (old : Loaded) (rows rows' : List Row) (nodes nodes' : List Node) → rows ≡ rows' → OnOk r (nodes ≡ nodes')
     → OnOk r ((let first : Loaded = record old { rows = rows; nodes = nodes } in first) ≡ (let second : Loaded = record old { rows = rows'; nodes = nodes' } in second))
 found_both r old rows rows' nodes nodes' same found = on_ok_weaker r (λ (is : nodes ≡ nodes'). rw (same, is) refl) found
+
+-- the first check fails, or it is met and the others count
+pub failed_first : (check : Check) (others : List Check) (at : ℕ) → check.is_met ≡ false → at ≡ check.place → first_failed (check ∷ others) ≡ Some at
+failed_first check others at failed same = rw failed (ap Some (sym same))
+
+pub met_first : (check : Check) (others : List Check) → check.is_met ≡ true → first_failed (check ∷ others) ≡ first_failed others
+met_first check others met = rw met refl
