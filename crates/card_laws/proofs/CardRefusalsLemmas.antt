@@ -18,10 +18,12 @@ use Rattle.file_model.specs.Chains.{and_given, given, refused_if}
 use Rattle.file_model.specs.Channels.{ChannelOutcome, channel_closed, channel_opened, channel_tried, closed_channel, is_le_of_number, is_open}
 use Rattle.file_model.specs.Commands.{contents_outcome, file_outcome, pin_outcome}
 use Rattle.file_model.specs.LawfulTrees.{IsLawfulTree, IsLawfulTreeCommand, tree_refusals}
+use Rattle.file_model.specs.Files.{descriptors_in}
 use Rattle.file_model.specs.Laws.{IsFileRefusal, IsLawfulCommand, IsLawfulOutcome, file_refusals}
 use Rattle.file_model.specs.Outcomes.{FileOutcome, PinOutcome}
 use Rattle.file_model.specs.Pins.{pin_changed, pin_disabled, pin_enabled, pin_found, pin_presented, pin_unblocked, pin_verified, presented, told, tries_left, unblock_presented}
 use Rattle.file_model.specs.Records.{other_length}
+use Rattle.file_model.specs.Selections.{IsSelection}
 use Rattle.file_model.specs.TreeCommands.{tree_outcome}
 use Rattle.file_model.specs.TreeOutcomes.{TreeOutcome}
 use Rattle.file_model.specs.declared.commands.ContentsCommand.TheVariants as ContentsCommands
@@ -58,7 +60,7 @@ use Rattle.card_laws.specs.Refusals.{Refusal, of_found}
 use Rattle.card_laws.specs.ToolkitLaws.{AnswersLeaveGoodCards}
 use Rattle.card_laws.proofs.IsStatusLemmas.{few_fetched}
 use Rattle.card_laws.proofs.TakenLemmas.{of_running}
-use Rattle.card_laws.proofs.RefusalLawsLemmas.{activate_refused, create_refused, deactivate_refused, delete_refused, increase_refused, read_binary_refused, read_record_refused, resize_refused, search_record_refused, select_refused, status_refused, update_binary_refused, update_record_refused}
+use Rattle.card_laws.proofs.RefusalLawsLemmas.{activate_refused, create_refused, deactivate_refused, delete_refused, increase_refused, read_binary_refused, read_record_refused, resize_refused, search_record_refused, select_refused, status_tested, update_binary_refused, update_record_refused}
 
 -- ---- the first condition that holds
 
@@ -347,18 +349,18 @@ lawful_tree : (card : CardState) (result : Result TreeOutcome StatusWord) → Ma
 lawful_tree card (Err status) is = listed_refuse tree_refusals refl status is
 lawful_tree card (Ok outcome) is = refl
 
-file_tested : (state : Persistent) (seen : Verified) (selection : Selection) (apdu : Apdu) (command : FileCommand) → IsTestedBy (refusals_on_files command state seen selection apdu) (file_outcome command state seen selection apdu)
+file_tested : (state : Persistent) (seen : Verified) (selection : Selection) (apdu : Apdu) → IsSelection (descriptors_in state) selection → (command : FileCommand) → IsTestedBy (refusals_on_files command state seen selection apdu) (file_outcome command state seen selection apdu)
 unfolding file_outcome contents_outcome
-file_tested state seen selection apdu FileCommands.Select = select_refused state seen selection apdu
-file_tested state seen selection apdu FileCommands.Status = status_refused state seen selection apdu
-file_tested state seen selection apdu (FileCommands.Contents ContentsCommands.ReadBinary) = read_binary_refused state seen selection apdu
-file_tested state seen selection apdu (FileCommands.Contents ContentsCommands.UpdateBinary) = update_binary_refused state seen selection apdu
-file_tested state seen selection apdu (FileCommands.Contents ContentsCommands.ReadRecord) = read_record_refused state seen selection apdu
-file_tested state seen selection apdu (FileCommands.Contents ContentsCommands.UpdateRecord) = update_record_refused state seen selection apdu
-file_tested state seen selection apdu (FileCommands.Contents ContentsCommands.SearchRecord) = search_record_refused state seen selection apdu
-file_tested state seen selection apdu (FileCommands.Contents ContentsCommands.Increase) = increase_refused state seen selection apdu
-file_tested state seen selection apdu (FileCommands.Contents ContentsCommands.Deactivate) = deactivate_refused state seen selection apdu
-file_tested state seen selection apdu (FileCommands.Contents ContentsCommands.Activate) = activate_refused state seen selection apdu
+file_tested state seen selection apdu lawful FileCommands.Select = select_refused state seen selection apdu
+file_tested state seen selection apdu lawful FileCommands.Status = status_tested state seen selection apdu lawful
+file_tested state seen selection apdu lawful (FileCommands.Contents ContentsCommands.ReadBinary) = read_binary_refused state seen selection apdu
+file_tested state seen selection apdu lawful (FileCommands.Contents ContentsCommands.UpdateBinary) = update_binary_refused state seen selection apdu
+file_tested state seen selection apdu lawful (FileCommands.Contents ContentsCommands.ReadRecord) = read_record_refused state seen selection apdu
+file_tested state seen selection apdu lawful (FileCommands.Contents ContentsCommands.UpdateRecord) = update_record_refused state seen selection apdu
+file_tested state seen selection apdu lawful (FileCommands.Contents ContentsCommands.SearchRecord) = search_record_refused state seen selection apdu
+file_tested state seen selection apdu lawful (FileCommands.Contents ContentsCommands.Increase) = increase_refused state seen selection apdu
+file_tested state seen selection apdu lawful (FileCommands.Contents ContentsCommands.Deactivate) = deactivate_refused state seen selection apdu
+file_tested state seen selection apdu lawful (FileCommands.Contents ContentsCommands.Activate) = activate_refused state seen selection apdu
 
 tree_tested : (state : Persistent) (seen : Verified) (channels : List (Option Selection)) (channel : ℕ) (apdu : Apdu) (command : TreeCommand)
     → IsTestedBy (refusals_on_trees command state seen channels channel apdu) (tree_outcome command state seen channels channel apdu)
@@ -393,8 +395,9 @@ module _ (files : FilesAreLawful) (trees : TreesAreLawful) (card : CardState) (g
 
     on_file : (command : FileCommand) → InOrder file_word (refusals_on_files command card.persistent (seen_by card) selection apdu) (file_outcome command card.persistent (seen_by card) selection apdu)
     on_file command =
-        tested file_word _ _ (file_tested card.persistent (seen_by card) selection apdu command) (lawful_file card _ (
-        files command bytes apdu card.persistent (seen_by card) selection is good.sound (selected_is card good (channel_of apdu.class) (channel_low apdu.class))))
+        let selected = selected_is card good (channel_of apdu.class) (channel_low apdu.class) in
+        tested file_word _ _ (file_tested card.persistent (seen_by card) selection apdu selected command) (lawful_file card _ (
+        files command bytes apdu card.persistent (seen_by card) selection is good.sound selected))
 
     on_tree : (command : TreeCommand) → InOrder tree_word (refusals_on_trees command card.persistent (seen_by card) card.channels (channel_of apdu.class) apdu) (tree_outcome command card.persistent (seen_by card) card.channels (channel_of apdu.class) apdu)
     on_tree command =

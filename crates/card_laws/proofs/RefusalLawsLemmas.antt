@@ -1,5 +1,5 @@
 -- Chains of tests are lists of conditions.
-use Rattle.std.proofs.Common.{◌≡◌, ℕ, Bool, true, false, List, [], ◌∷◌, ◌++◌, Option, Some, None, Result, Ok, Err, refl, sym, ap, ◌∙◌, subst, inl, inr, ◌⊎◌, ◌==◌, not, is_none, length, All}
+use Rattle.std.proofs.Common.{◌≡◌, ℕ, Bool, true, false, List, [], ◌∷◌, ◌++◌, Option, Some, None, Result, Ok, Err, refl, sym, ap, ◌∙◌, subst, inl, inr, ◌⊎◌, ◌==◌, not, is_none, length, All, IsSomeAnd}
 use Rattle.std.proofs.lemmas.Bool.{eq-eqb, false≢true, not-false}
 use Rattle.std.proofs.lemmas.List.Elements.{All-cons, All-contains, All-head, All-map, All-nil, All-tail, All-weaker}
 use Rattle.list_laws.proofs.FindLemmas.{find_Some}
@@ -20,18 +20,19 @@ use Rattle.file_model.proofs.ChainsLemmas.{past_given as past_result}
 use Rattle.file_model.specs.Chains.{and_given, given, refused_if}
 use Rattle.file_model.specs.Files.{descriptor_in, descriptors_in, file_found, is_wanted}
 use Rattle.file_model.specs.LifeCycles.{file_activated, file_deactivated, life_changed, life_file, life_in}
+use Rattle.apdu_form.specs.Model.{Apdu}
 use Rattle.apdu_form.specs.Fields.{has_no_parameters, has_data, has_le_alone, has_no_data}
 use Rattle.file_model.specs.Outcomes.{addressed, is_deactivated}
 use Rattle.file_model.specs.Records.{has_increase_length, has_increase_parameters, has_record_parameters, has_search_parameters, increase_in, increased, may_be_increased, may_be_updated, number_to_read, number_to_search, number_to_update, record_file, record_read, record_read_from, record_update_in, record_updated, search_in, searched, short_in_p2, short_to_increase, sum_to_write}
 use Rattle.file_model.specs.Selecting.{file_selected, status_told}
-use Rattle.file_model.specs.Selections.{current_ef}
+use Rattle.file_model.specs.Selections.{IsSelection, current_ef}
 use Rattle.file_model.specs.declared.descriptors.Descriptor.{Descriptor}
 use Rattle.file_model.specs.declared.descriptors.Wanted.{Wanted}
 use Rattle.file_model.specs.declared.descriptors.Wanted.TheVariants.{Number, Short}
 use Rattle.file_model.specs.declared.selections.Selection.{Selection}
 use Rattle.card_laws.specs.RefusalLaws.{DoesNotHold, IsAdmitted, IsDoneByAdm, IsDoneByLeave, IsDoneByRule, IsFirst, IsGranted, IsRefusedFor, IsTestedBy, IsTreeRefusedFor}
 use Rattle.card_laws.proofs.ReadingLawsLemmas.{given_met, unless_ok}
-use Rattle.card_laws.specs.Refusals.{Refusal, file_meant, of_file, of_found, refusals_of_create, refusals_of_delete, refusals_of_increase, refusals_of_life_cycle, refusals_of_read_binary, refusals_of_read_record, refusals_of_resize, refusals_of_search_record, refusals_of_select, refusals_of_status, refusals_of_update_binary, refusals_of_update_record, without_file}
+use Rattle.card_laws.specs.Refusals.{Refusal, file_meant, of_file, of_found, refusals_of_create, refusals_of_delete, refusals_of_increase, refusals_of_life_cycle, refusals_of_read_binary, refusals_of_read_record, refusals_of_resize, refusals_of_search_record, refusals_of_select, refusals_of_status, refusals_of_update_binary, refusals_of_update_record, without_current_df, without_file}
 
 -- ---- the first of a list
 
@@ -115,6 +116,12 @@ module _ {X : Type 0} where
   tested_given None status rest next tested = tested_at_head status rest
   tested_given (Some y) status rest next tested = tested_further status rest (next y) (tested y)
 
+  -- what is there is not refused for want of it
+  tested_there : {Y : Type 0} (o : Option Y) (Is : Y → Type 0) (status : StatusWord) (next : Y → Result X StatusWord) → IsSomeAnd o Is → ((y : Y) → IsTestedBy [] (next y)) → IsTestedBy [] (given o status next)
+  unfolding given
+  tested_there None Is status next there tested = absurd there
+  tested_there (Some y) Is status next there tested = tested y
+
   tested_by : {Y : Type 0} (o : Option Y) (status : StatusWord) (rest : Y → List Refusal) (next : Y → Result X StatusWord) → ((y : Y) → IsTestedBy (rest y) (next y))
       → IsTestedBy ((is_none o, status) ∷ of_found o rest) (given o status next)
   unfolding given
@@ -194,9 +201,14 @@ pub select_refused : IsRefusedFor refusals_of_select (λ state seen. file_select
 unfolding file_selected
 select_refused state seen selection apdu = tested_unless _ _ _ _ (tested_unless _ _ _ _ (tested_given _ _ _ _ (λ file. tested_done _)))
 
-pub status_refused : IsRefusedFor refusals_of_status (λ state seen. status_told state)
+pub status_refused : IsRefusedFor (λ state seen selection apdu. refusals_of_status state seen selection apdu ++ without_current_df state selection) (λ state seen. status_told state)
 unfolding status_told
 status_refused state seen selection apdu = tested_unless _ _ _ _ (tested_unless _ _ _ _ (tested_given _ _ _ _ (λ df. tested_done _)))
+
+-- STATUS where the current DF is there
+pub status_tested : (state : Persistent) (seen : Verified) (selection : Selection) (apdu : Apdu) → IsSelection (descriptors_in state) selection → IsTestedBy (refusals_of_status state seen selection apdu) (status_told state selection apdu)
+unfolding status_told
+status_tested state seen selection apdu lawful = tested_unless _ _ _ _ (tested_unless _ _ _ _ (tested_there _ _ _ _ lawful.df (λ df. tested_done _)))
 
 life_refused : (op : Op) (life : ℕ) → IsRefusedFor (refusals_of_life_cycle op) (life_changed op life)
 unfolding life_changed life_file life_in

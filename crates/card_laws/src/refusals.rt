@@ -1,4 +1,5 @@
-//! What commands on files are refused for. The functions do nothing: their contracts are the laws.
+//! What commands are refused for: those on files on any state, and every command on a good card. The functions do nothing: their contracts are the laws.
+ghost use Rattle.std.specs.Prelude.{◌++◌};
 ghost use Rattle.access_rules.specs.declared.rules.Op.TheVariants.{Activate, Deactivate, Increase, ReadBinary, ReadRecord, Search, UpdateBinary, UpdateRecord};
 ghost use Rattle.file_model.specs.Creating.{created};
 ghost use Rattle.file_model.specs.Deleting.{deleted};
@@ -9,7 +10,7 @@ ghost use Rattle.file_model.specs.Records.{increased, record_read, record_update
 ghost use Rattle.file_model.specs.Selecting.{file_selected, status_told};
 ghost use Rattle.card_laws.specs.CardRefusalLaws.{ConditionsRefuse, RefusesInOrder};
 ghost use Rattle.card_laws.specs.RefusalLaws.{IsDoneByAdm, IsDoneByLeave, IsDoneByRule, IsRefusedFor, IsTreeRefusedFor};
-ghost use Rattle.card_laws.specs.Refusals.{refusals_of_create, refusals_of_delete, refusals_of_increase, refusals_of_life_cycle, refusals_of_read_binary, refusals_of_read_record, refusals_of_resize, refusals_of_search_record, refusals_of_select, refusals_of_status, refusals_of_update_binary, refusals_of_update_record};
+ghost use Rattle.card_laws.specs.Refusals.{refusals_of_create, refusals_of_delete, refusals_of_increase, refusals_of_life_cycle, refusals_of_read_binary, refusals_of_read_record, refusals_of_resize, refusals_of_search_record, refusals_of_select, refusals_of_status, refusals_of_update_binary, refusals_of_update_record, without_current_df};
 
 use crate::toolkit_laws::{answers_with_applets_are_lawful, cards_stay_good};
 use file_model::{commands_on_files_are_lawful, commands_on_trees_are_lawful};
@@ -28,7 +29,9 @@ pub fn the_first_condition_refuses()
 /// So has each command that selects a file or tells of one, that is on its life cycle, or that makes, deletes or resizes it.
 pub fn the_first_condition_refuses_on_files()
     ensures select { IsRefusedFor refusals_of_select (λ state seen. file_selected state) }
-    ensures status { IsRefusedFor refusals_of_status (λ state seen. status_told state) }
+    ensures status { IsRefusedFor
+        (λ state seen selection apdu. refusals_of_status state seen selection apdu ++ without_current_df state selection)
+        (λ state seen. status_told state) }
     ensures deactivate { IsRefusedFor (refusals_of_life_cycle Deactivate) file_deactivated }
     ensures activate { IsRefusedFor (refusals_of_life_cycle Activate) file_activated }
     ensures create { IsTreeRefusedFor refusals_of_create created }

@@ -1,5 +1,5 @@
 -- What the sink has taken where a run ended before the handset rested.
-use Rattle.std.proofs.Common.{◌≡◌, ℕ, Bool, true, false, List, [], ◌∷◌, ◌++◌, Some, refl, sym, ap, ◌∙◌, append_assoc, subst, inl, inr, map, reverse, ◌⊎◌, MatchBool}
+use Rattle.std.proofs.Common.{◌≡◌, ℕ, Bool, true, false, List, [], ◌∷◌, ◌++◌, refl, sym, ap, ◌∙◌, append_assoc, subst, inl, inr, map, reverse, ◌⊎◌, MatchBool}
 use Rattle.std.proofs.lemmas.List.{append-nil, reverse-append}
 use Rattle.uicc_types.specs.Told.{IsFront}
 use Rattle.uicc_types.specs.declared.answers.Answer.{Answer}
@@ -138,7 +138,7 @@ shows_step given log old s now broken begun = record {
   begun = begun;
   front = entries_text (trace log) ++ broken.front;
   is_front = front_as _ _ _ (sym (text_with log broken.pending)) (front_behind (entries_text (trace log)) broken.front (text_of broken.pending) (front_of_pending broken.pending broken.front broken.cut_off));
-  written = broken.written ∙ ap Some (append_assoc given.before (entries_text (trace log)) broken.front);
+  written = broken.written;
 }
 
 pub shows_note : (given : Beginning) (log : List Event) (old : CardView) (note : Note) (now : Moment) → asked (history log) ≡ Show note → IsOrderly (history log) → BreaksInNote given log old note now → ShowsTrace given (lines_back log) (trace log ++ Shown note ∷ []) now
@@ -146,7 +146,7 @@ shows_note given log old note now is orderly broken = record {
   begun = begun_by log (Happens (Noted note) ∷ log) _ refl (is, orderly) (trace_noted note log);
   front = entries_text (trace log) ++ broken.front;
   is_front = front_as _ _ _ (sym (text-append (trace log) (Shown note ∷ []) ∙ ap (λ more. entries_text (trace log) ++ more) (append-nil (note_line note)))) (front_behind (entries_text (trace log)) broken.front (note_line note) broken.begun);
-  written = broken.written ∙ ap Some (append_assoc given.before (entries_text (trace log)) broken.front);
+  written = broken.written;
 }
 
 shows_broken : (given : Beginning) (log : List Event) (old : CardView) (now : Moment) (duty : Duty) → asked (history log) ≡ duty → IsOrderly (history log) → BreaksIn given log old now duty → ShowsBegun given (lines_back log) now
@@ -166,7 +166,7 @@ shows_failed given told now failed = record {
   begun = stopped_at failed.log failed.last failed.resets failed.run.orderly (last_items failed.old failed.card failed.last failed.ends);
   front = entries_text (trace failed.log) ++ text_of failed.last;
   is_front = front_as _ _ _ (sym (text_with failed.log failed.last)) ([], sym (append-nil (entries_text (trace failed.log) ++ text_of failed.last)));
-  written = failed.written ∙ ap Some (append_assoc given.before (entries_text (trace failed.log)) (text_of failed.last));
+  written = failed.written;
 }
 
 pub ended_begun : EndsAreBegun

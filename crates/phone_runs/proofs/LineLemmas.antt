@@ -8,7 +8,7 @@ use Rattle.byte_streams.specs.Lines.{LineList}
 use Rattle.script_form.specs.Forms.{IsLine}
 use Rattle.script_form.specs.Reads.{IsOnly}
 use Rattle.script_form.specs.declared.lines.ScriptLine.{ScriptLine}
-use Rattle.script_reader.specs.Behind.{LinesReadTo, StopsReading}
+use Rattle.script_reader.specs.Behind.{StopsReading}
 use Rattle.script_reader.proofs.AreReadLemmas.{AreRead-more}
 use Rattle.script_reader.specs.Reading.{Finds, Follows}
 use Rattle.script_reader.specs.Said.{AreRead}
@@ -145,11 +145,6 @@ pub ends_amid : (text : List ℕ) (opening : List ScriptLine) (given : Beginning
 ends_amid text opening given left step_end.SinkFailed why now is stops = subst (λ (w : PlayEnd). PhoneComesTo text opening given left w now) (sym is) stops
 ends_amid text opening given left step_end.ResetFailed why now is stops = subst (λ (w : PlayEnd). PhoneComesTo text opening given left w now) (sym is) stops
 
--- of the lines that were read nothing is said there
-pub unread_amid : (opening : List ScriptLine) (text : List ℕ) (left : Option (List ℕ)) (end : StepEnd) (why : PlayEnd) → EndsAmid end why → LinesReadTo may_be_heard opening text left why
-unread_amid opening text left step_end.SinkFailed why is = subst (λ (w : PlayEnd). LinesReadTo may_be_heard opening text left w) (sym is) tt
-unread_amid opening text left step_end.ResetFailed why is = subst (λ (w : PlayEnd). LinesReadTo may_be_heard opening text left w) (sym is) tt
-
 -- ---- where no more are read
 
 -- the lines end behind those that were read
@@ -168,6 +163,7 @@ ends_serving text opening given script left left_then end phone parts taken wait
   legal = legal given.first serving.at.card serving.log serving.at.run serving.rests;
   of_card = of_the_card given.first serving.at.card serving.log serving.at.run;
   cause = cause serving.found serving.follows;
+  seen = serving.at.seen;
   stands = stands_seen parts taken waiting serving.at.card (shown serving.log) serving.at.seen serving.at.rests;
   written = serving.at.written;
   counted = serving.at.counted;

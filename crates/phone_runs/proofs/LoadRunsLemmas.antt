@@ -1,5 +1,6 @@
 -- From one line of a long run to the next, and what is counted at its end.
 use Rattle.std.proofs.Common.{◌≡◌, ℕ, List, [], ◌∷◌, ◌++◌, map, reverse, Some, refl, sym, ap, ◌∙◌, subst, flat_map}
+use Rattle.std.specs.Io.KnownBytes.{append_known}
 use Rattle.std.proofs.lemmas.List.{append-nil, append_assoc, reverse-append, reverse-reverse}
 use Rattle.uicc_types.specs.declared.plans.Plan.{Plan}
 use Rattle.uicc_types.specs.declared.plans.TheConstants.Plan.{NONE}
@@ -141,11 +142,11 @@ entries_text_is (entry ∷ entries) =
 some_same : {X : Type 0} {x y : X} → Some x ≡ Some y → x ≡ y
 some_same e = cc
 
-text_is : (given : Beginning) (text : List ℕ) (entries : List TraceEntry) → given.before ≡ [] → Some text ≡ Some (given.before ++ entries_text entries) → text ≡ flat_map trace_text (map entry_line entries)
+text_is : (given : Beginning) (text : List ℕ) (entries : List TraceEntry) → given.before ≡ Some [] → Some text ≡ append_known given.before (entries_text entries) → text ≡ flat_map trace_text (map entry_line entries)
 text_is given text entries none written =
-    some_same written ∙ ap (λ (before : List ℕ). before ++ entries_text entries) none ∙ sym (entries_text_is entries)
+    some_same (written ∙ ap (λ before. append_known before (entries_text entries)) none) ∙ sym (entries_text_is entries)
 
-pub counts_run : CountsAreThoseOfTheLines → (made : List HandsetLine) (given : Beginning) (phone : Kept) (parts : CardParts) (text : List ℕ) (waiting : Plan) (counts : Counts) → given.before ≡ [] → counts ≡ counted_in text
+pub counts_run : CountsAreThoseOfTheLines → (made : List HandsetLine) (given : Beginning) (phone : Kept) (parts : CardParts) (text : List ℕ) (waiting : Plan) (counts : Counts) → given.before ≡ Some [] → counts ≡ counted_in text
     → IsLoading made given [] phone (moment parts (Some text) waiting) → IsCountedRun made given counts (moment parts (Some text) waiting)
 counts_run law made given phone parts text waiting counts none are loading =
     let told = sym (append-nil (log_lines loading.log)) ∙ loading.parted in

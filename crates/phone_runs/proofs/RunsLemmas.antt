@@ -1,5 +1,6 @@
 -- From one event of a run to the next, by what is known of the card.
-use Rattle.std.proofs.Common.{◌≡◌, ℕ, List, [], ◌∷◌, ◌++◌, Option, Some, Err, refl, sym, ap, ◌∙◌, append_assoc, subst, inl, inr, reverse}
+use Rattle.std.proofs.Common.{◌≡◌, ℕ, List, [], ◌∷◌, ◌++◌, Option, Err, refl, sym, ap, ◌∙◌, subst, inl, inr, reverse}
+use Rattle.std.specs.Io.KnownBytes.{append_known}
 use Rattle.std.proofs.lemmas.List.{append-nil, reverse-append}
 use Rattle.std.proofs.lemmas.List.Concat.{flat_map-append}
 use Rattle.uicc_types.specs.declared.answers.Answer.{Answer}
@@ -23,7 +24,7 @@ use Rattle.handset_model.specs.declared.known.Duty.{Duty}
 use Rattle.handset_model.specs.declared.known.Duty.TheVariants.{Rest, Transmit, Show, ResetCard}
 use Rattle.terminal_side.specs.Kept.{Kept, kept}
 use Rattle.run_steps.specs.Ends.{End, moment_at}
-use Rattle.run_steps.proofs.SteppingLemmas.{no_last_command, still_shows}
+use Rattle.run_steps.proofs.SteppingLemmas.{ToldFront, no_last_command, still_shows, taken_none, told_more}
 use Rattle.run_steps.proofs.ViewLemmas.{rests_then, steps_nowhere, steps_one, steps_then}
 use Rattle.run_steps.specs.Runs.{text_of}
 use Rattle.run_steps.specs.Stepping.{BreaksOff, Holds, IsSeen, Moment}
@@ -80,9 +81,9 @@ runs_on first old new log later step items run goes more = record {
 
 -- a step was taken
 pub reaches_by : CountsJoin → PlansAreSetInOrder → (given : Beginning) (log later : List Event) (step : Step) (items : List TraceItem) (phone mid : Kept) (from to : Moment) → GoesOnBy log later step items → phone ≡ kept (history later)
-    → ((old : CardView) (before : List ℕ) → IsSeen old from → from.taken ≡ Some before → TakesShowing items old before step from to) → IsAt given log mid from → IsAt given later phone to
+    → ((old : CardView) → IsSeen old from → TakesShowing items old step from to) → IsAt given log mid from → IsAt given later phone to
 reaches_by join order given log later step items phone mid from to goes keeps takes at =
-    let showing = takes at.card (given.before ++ entries_text (trace log)) at.seen at.written in
+    let showing = takes at.card at.seen in
     let taken = showing.taken in
     record {
       card = taken.card;
@@ -90,8 +91,8 @@ reaches_by join order given log later step items phone mid from to goes keeps ta
           (subst (λ i. StepsShow at.card (step ∷ []) i taken.card) showing.shows (steps_one at.card taken.card step taken.shown taken.gives));
       keeps = keeps;
       seen = taken.seen;
-      written = taken.written ∙ ap Some (append_assoc given.before (entries_text (trace log)) (text_of taken.shown)
-          ∙ ap (λ i. given.before ++ (entries_text (trace log) ++ text_of i)) showing.shows ∙ ap (λ rest. given.before ++ rest) (sym goes.text_is));
+      written = told_more given.before from.taken to.taken (entries_text (trace log)) (text_of taken.shown) taken.written at.written
+          ∙ ap (append_known given.before) (ap (λ i. entries_text (trace log) ++ text_of i) showing.shows ∙ sym goes.text_is);
       counted = subst (λ s. IsCounted given.meter to.meter (plan_given s) (shown later)) (sym goes.steps_are)
           (subst (λ i. IsCounted given.meter to.meter (plan_given (steps log ++ step ∷ [])) i) (ap (λ i. shown log ++ i) showing.shows ∙ sym goes.shown_is)
           (subst (λ l. IsCounted given.meter to.meter l (shown log ++ taken.shown)) (plans_behind order (steps log) step from.waiting at.waits)
@@ -103,9 +104,9 @@ reaches_by join order given log later step items phone mid from to goes keeps ta
 
 -- a step was the last
 fails_by : CountsJoin → PlansAreSetInOrder → (given : Beginning) (log : List Event) (phone : Kept) (from to : Moment) → asked (history log) ≡ ResetCard
-    → ((old : CardView) (before : List ℕ) → IsSeen old from → from.taken ≡ Some before → EndsStep old before step.Reset from to) → IsAt given log phone from → FailsSo given (lines_back log) to
+    → ((old : CardView) → IsSeen old from → EndsStep old step.Reset from to) → IsAt given log phone from → FailsSo given (lines_back log) to
 fails_by join order given log phone from to resets ends at =
-    let last = ends at.card (given.before ++ entries_text (trace log)) at.seen at.written in
+    let last = ends at.card at.seen in
     record {
       log = log;
       old = at.card;
@@ -116,16 +117,16 @@ fails_by join order given log phone from to resets ends at =
       last = last.shown;
       ends = last.ends;
       stands = last.stands;
-      written = last.written;
+      written = told_more given.before from.taken to.taken (entries_text (trace log)) (text_of last.shown) last.written at.written;
       counted = subst (λ l. IsCounted given.meter to.meter l (shown log ++ last.shown)) (plans_behind order (steps log) step.Reset from.waiting at.waits)
           (join given.meter from.meter to.meter (plan_given (steps log)) (armed_after from.waiting (step.Reset ∷ [])) (shown log) last.shown at.counted last.counted);
     }
 
 -- the sink failed in a step
 breaks_by : CountsJoin → (given : Beginning) (log : List Event) (phone : Kept) (step : Step) (from to : Moment)
-    → ((old : CardView) (before : List ℕ) → IsSeen old from → from.taken ≡ Some before → BreaksStep old before step from to) → (at : IsAt given log phone from) → BreaksInStep given log at.card step to
+    → ((old : CardView) → IsSeen old from → BreaksStep old step from to) → (at : IsAt given log phone from) → BreaksInStep given log at.card step to
 breaks_by join given log phone step from to breaks at =
-    let broken = breaks at.card (given.before ++ entries_text (trace log)) at.seen at.written in
+    let broken = breaks at.card at.seen in
     record {
       card = broken.card;
       pending = broken.pending;
@@ -134,7 +135,7 @@ breaks_by join given log phone step from to breaks at =
       broken = subst (λ w. BreaksOff at.card step broken.pending (armed_after w (step ∷ [])) broken.set broken.card) at.waits broken.broken;
       cut_off = broken.cut_off;
       stands = broken.stands;
-      written = broken.written;
+      written = told_more given.before from.taken to.taken (entries_text (trace log)) broken.front broken.written at.written;
       counted = join given.meter from.meter to.meter (plan_given (steps log)) broken.set (shown log) broken.pending at.counted broken.counted;
     }
 
@@ -181,7 +182,7 @@ lines_sent command reply.Cut answer log = refl
 lines_sent command reply.Off answer log = refl
 
 pub reaches_sent : CountsJoin → PlansAreSetInOrder → (given : Beginning) (log : List Event) (command : Command) (outcome : Reply) (answer : Answer) (old new : Kept) (from to : Moment) → asked (history log) ≡ Transmit command
-    → ((old : CardView) (before : List ℕ) → IsSeen old from → from.taken ≡ Some before → TakesShowing (exchanged (apdu_of command) answer outcome) old before (step.Apdu (apdu_of command)) from to)
+    → ((old : CardView) → IsSeen old from → TakesShowing (exchanged (apdu_of command) answer outcome) old (step.Apdu (apdu_of command)) from to)
     → new ≡ kept (replied outcome answer ∷ Sent command ∷ history log) → IsAt given log old from → Reaches given (lines_back log) new to
 reaches_sent join order given log command outcome answer old new from to is takes keeps at = record {
   log = with_reply command outcome answer log;
@@ -191,12 +192,12 @@ reaches_sent join order given log command outcome answer old new from to is take
 
 -- the run ended in it
 pub ends_sent : CountsJoin → (given : Beginning) (log : List Event) (command : Command) (end : StepEnd) (phone : Kept) (from to : Moment) → asked (history log) ≡ Transmit command
-    → ((old : CardView) (before : List ℕ) → IsSeen old from → from.taken ≡ Some before → GivesStep (Err end) old before (step.Apdu (apdu_of command)) from to)
+    → ((old : CardView) → IsSeen old from → GivesStep (Err end) old (step.Apdu (apdu_of command)) from to)
     → IsAt given log phone from → RunEnds given (lines_back log) to end
 ends_sent join given log command SinkFailed phone from to is gives at =
     broken_at given log at.card to (Transmit command) is at.run (breaks_by join given log phone (step.Apdu (apdu_of command)) from to gives at)
 ends_sent join given log command ResetFailed phone from to is gives at =
-    let ended = gives at.card (given.before ++ entries_text (trace log)) at.seen at.written in absurd (no_last_command at.card ended.card (apdu_of command) ended.shown ended.ends)
+    let ended = gives at.card at.seen in absurd (no_last_command at.card ended.card (apdu_of command) ended.shown ended.ends)
 
 -- ---- a reset
 
@@ -241,7 +242,7 @@ resets_on outcome log is = record {
 }
 
 pub reaches_reset : CountsJoin → PlansAreSetInOrder → (given : Beginning) (log : List Event) (outcome : AReset) (old new : Kept) (from to : Moment) → asked (history log) ≡ ResetCard
-    → ((old : CardView) (before : List ℕ) → IsSeen old from → from.taken ≡ Some before → TakesShowing (restarted_by outcome) old before step.Reset from to)
+    → ((old : CardView) → IsSeen old from → TakesShowing (restarted_by outcome) old step.Reset from to)
     → new ≡ kept (reset_by outcome ∷ history log) → IsAt given log old from → Reaches given (lines_back log) new to
 reaches_reset join order given log outcome old new from to is takes keeps at = record {
   log = with_reset outcome log;
@@ -250,7 +251,7 @@ reaches_reset join order given log outcome old new from to is takes keeps at = r
 }
 
 pub ends_reset : CountsJoin → PlansAreSetInOrder → (given : Beginning) (log : List Event) (end : StepEnd) (phone : Kept) (from to : Moment) → asked (history log) ≡ ResetCard
-    → ((old : CardView) (before : List ℕ) → IsSeen old from → from.taken ≡ Some before → GivesStep (Err end) old before step.Reset from to)
+    → ((old : CardView) → IsSeen old from → GivesStep (Err end) old step.Reset from to)
     → IsAt given log phone from → RunEnds given (lines_back log) to end
 ends_reset join order given log SinkFailed phone from to is gives at = broken_at given log at.card to ResetCard is at.run (breaks_by join given log phone step.Reset from to gives at)
 ends_reset join order given log ResetFailed phone from to is gives at = fails_by join order given log phone from to is gives at
@@ -268,7 +269,7 @@ text_noted note log = ap entries_text (trace_noted note log) ∙ text-append (tr
 
 -- where the card stands and what waits is the same, and this is what the sink has taken
 pub reaches_noted : (given : Beginning) (log : List Event) (note : Note) (old new : Kept) (from : Moment) (taken : Option (List ℕ)) → asked (history log) ≡ Show note
-    → ((before : List ℕ) → from.taken ≡ Some before → taken ≡ Some (before ++ note_line note)) → new ≡ kept (Noted note ∷ history log) → IsAt given log old from → Reaches given (lines_back log) new (record from { taken = taken })
+    → taken ≡ append_known from.taken (note_line note) → new ≡ kept (Noted note ∷ history log) → IsAt given log old from → Reaches given (lines_back log) new (record from { taken = taken })
 reaches_noted given log note old new from taken is more keeps at = record {
   log = Happens (Noted note) ∷ log;
   lines_are = refl;
@@ -281,27 +282,21 @@ reaches_noted given log note old new from taken is more keeps at = record {
     };
     keeps = keeps;
     seen = at.seen;
-    written = more (given.before ++ entries_text (trace log)) at.written ∙ ap Some (append_assoc given.before (entries_text (trace log)) (note_line note) ∙ ap (λ rest. given.before ++ rest) (sym (text_noted note log)));
+    written = told_more given.before from.taken taken (entries_text (trace log)) (note_line note) more at.written ∙ ap (append_known given.before) (sym (text_noted note log));
     counted = subst (λ i. IsCounted given.meter from.meter (plan_given (steps log)) i) (sym (shown_noted note log)) at.counted;
     waits = at.waits;
     rests = subst (λ (i : List TraceItem). Rests at.card i from.is_due) (sym (shown_noted note log)) at.rests;
   };
 }
 
-pub record IsFrontTaken (taken : Option (List ℕ)) (before part : List ℕ) : Type 0 where
-  pub front : List ℕ
-  pub begun : (rest : List ℕ) × (part ≡ front ++ rest)
-  pub written : taken ≡ Some (before ++ front)
-
 pub ends_noted : (given : Beginning) (log : List Event) (note : Note) (phone : Kept) (from : Moment) (taken : Option (List ℕ)) → ((card : CardView) → IsSeen card from → Holds card from.held) → asked (history log) ≡ Show note
-    → ((before : List ℕ) → from.taken ≡ Some before → IsFrontTaken taken before (note_line note)) → IsAt given log phone from → BreaksSo given (lines_back log) (record from { taken = taken })
-ends_noted given log note phone from taken stands is breaks at =
-    let front = breaks (given.before ++ entries_text (trace log)) at.written in
+    → ToldFront from.taken taken (note_line note) → IsAt given log phone from → BreaksSo given (lines_back log) (record from { taken = taken })
+ends_noted given log note phone from taken stands is front at =
     broken_at given log at.card (record from { taken = taken }) (Show note) is at.run (record {
       front = front.front;
       begun = front.begun;
       stands = stands at.card at.seen;
-      written = front.written;
+      written = told_more given.before from.taken taken (entries_text (trace log)) front.front front.written at.written;
       counted = at.counted;
     })
 
@@ -368,7 +363,7 @@ begins_empty given phone now keeps begins = record {
   run = record { orderly = tt; in_turn = tt; run = steps_nowhere given.first given.first refl };
   keeps = keeps;
   seen = begins.seen;
-  written = begins.written ∙ ap Some (sym (append-nil given.before));
+  written = begins.written ∙ sym (taken_none given.before);
   counted = begins.counted;
   waits = begins.waits;
   rests = begins.rests;

@@ -1,5 +1,5 @@
 -- What comes of one thing that a handset asks for.
-use Rattle.std.proofs.Common.{◌≡◌, ℕ, List, ◌∷◌, ◌++◌, Option, Some, None, Err, refl, sym, ap, ◌∙◌, subst}
+use Rattle.std.proofs.Common.{◌≡◌, ℕ, List, ◌∷◌, Option, Some, None, Err, refl, sym, ap, ◌∙◌, subst}
 use Rattle.std.specs.Io.KnownBytes.{append_known}
 use Rattle.uicc_types.specs.Told.{Becomes}
 use Rattle.uicc_types.specs.declared.answers.Answer.{Answer}
@@ -25,9 +25,9 @@ use Rattle.run_steps.specs.Views.{CardView}
 use Rattle.run_steps.specs.declared.steps.Reply.{Reply}
 use Rattle.run_steps.specs.declared.steps.Restarted.{Restarted as AReset}
 use Rattle.run_steps.specs.declared.steps.StepEnd.{StepEnd}
-use Rattle.run_steps.proofs.SteppingLemmas.{told_more}
+use Rattle.run_steps.proofs.SteppingLemmas.{told_front}
 use Rattle.phone_runs.proofs.IsServedMoreLemmas.{LinesEnd, asked_kept, is_none_asked, is_note, is_reset, is_send, next_is, noted_next, reset_next, sent_next, served_more}
-use Rattle.phone_runs.proofs.RunsLemmas.{IsFrontTaken, ends_noted, ends_reset, ends_sent, keeps_same, reaches_noted, reaches_reset, reaches_sent}
+use Rattle.phone_runs.proofs.RunsLemmas.{ends_noted, ends_reset, ends_sent, keeps_same, reaches_noted, reaches_reset, reaches_sent}
 use Rattle.phone_runs.specs.Logs.{Event, PhoneLine, history, lines_back}
 use Rattle.phone_runs.specs.Runs.{Beginning, BreaksSo, RunEnds, note_line}
 use Rattle.phone_runs.specs.Settling.{IsAt, Reaches, Rests}
@@ -95,17 +95,17 @@ sent_so old mid found apdu h asking is keeps =
 
 pub sent_further : CountsJoin → PlansAreSetInOrder → (old mid new : Kept) (found : Option PhoneStep) (apdu : List ℕ) (outcome : Reply) (answer : Answer) (given : Beginning) (log : List Event) (from to : Moment)
     → IsAskedOf old mid found → found ≡ Some (step.Send apdu) → ((h : List Happened) → mid ≡ kept h → new ≡ kept (replied outcome answer ∷ h))
-    → ((old : CardView) (before : List ℕ) → IsSeen old from → from.taken ≡ Some before → TakesShowing (exchanged apdu answer outcome) old before (run.Apdu apdu) from to) → IsAt given log old from → Reaches given (lines_back log) new to
+    → ((old : CardView) → IsSeen old from → TakesShowing (exchanged apdu answer outcome) old (run.Apdu apdu) from to) → IsAt given log old from → Reaches given (lines_back log) new to
 sent_further join order old mid new found apdu outcome answer given log from to asking is hears takes at =
     let sent = sent_so old mid found apdu (history log) asking is at.keeps in
-    let Takes : List ℕ → Type 0 = λ a. (old : CardView) (before : List ℕ) → IsSeen old from → from.taken ≡ Some before → TakesShowing (exchanged a answer outcome) old before (run.Apdu a) from to in
+    let Takes : List ℕ → Type 0 = λ a. (old : CardView) → IsSeen old from → TakesShowing (exchanged a answer outcome) old (run.Apdu a) from to in
     reaches_sent join order given log sent.command outcome answer old new from to sent.asked_is (subst Takes (sym sent.bytes) takes) (hears (Sent sent.command ∷ history log) sent.keeps) at
 
 pub sent_ends : CountsJoin → (old mid : Kept) (found : Option PhoneStep) (apdu : List ℕ) (end : StepEnd) (given : Beginning) (log : List Event) (from to : Moment) → IsAskedOf old mid found → found ≡ Some (step.Send apdu)
-    → ((old : CardView) (before : List ℕ) → IsSeen old from → from.taken ≡ Some before → GivesStep (Err end) old before (run.Apdu apdu) from to) → IsAt given log old from → RunEnds given (lines_back log) to end
+    → ((old : CardView) → IsSeen old from → GivesStep (Err end) old (run.Apdu apdu) from to) → IsAt given log old from → RunEnds given (lines_back log) to end
 sent_ends join old mid found apdu end given log from to asking is gives at =
     let sent = sent_so old mid found apdu (history log) asking is at.keeps in
-    let Gives : List ℕ → Type 0 = λ a. (old : CardView) (before : List ℕ) → IsSeen old from → from.taken ≡ Some before → GivesStep (Err end) old before (run.Apdu a) from to in
+    let Gives : List ℕ → Type 0 = λ a. (old : CardView) → IsSeen old from → GivesStep (Err end) old (run.Apdu a) from to in
     ends_sent join given log sent.command end old from to sent.asked_is (subst Gives (sym sent.bytes) gives) at
 
 pub sent_more : LinesEnd → (old mid new : Kept) (found : Option PhoneStep) (apdu : List ℕ) (outcome : Reply) (answer : Answer) → IsAskedOf old mid found → found ≡ Some (step.Send apdu)
@@ -124,14 +124,14 @@ pub reset_keeps : (old mid : Kept) (found : Option PhoneStep) (h : List Happened
 reset_keeps old mid found h asking resets keeps = asking.after h keeps ∙ ap kept (next_is h ResetCard resets)
 
 pub reset_further : CountsJoin → PlansAreSetInOrder → (old mid new : Kept) (found : Option PhoneStep) (outcome : AReset) (given : Beginning) (log : List Event) (from to : Moment) → IsAskedOf old mid found → found ≡ Some step.Reset
-    → ((h : List Happened) → mid ≡ kept h → new ≡ kept (reset_by outcome ∷ h)) → ((old : CardView) (before : List ℕ) → IsSeen old from → from.taken ≡ Some before → TakesShowing (restarted_by outcome) old before run.Reset from to)
+    → ((h : List Happened) → mid ≡ kept h → new ≡ kept (reset_by outcome ∷ h)) → ((old : CardView) → IsSeen old from → TakesShowing (restarted_by outcome) old run.Reset from to)
     → IsAt given log old from → Reaches given (lines_back log) new to
 reset_further join order old mid new found outcome given log from to asking is hears takes at =
     let resets = reset_so old mid found (history log) asking is at.keeps in
     reaches_reset join order given log outcome old new from to resets takes (hears (history log) (reset_keeps old mid found (history log) asking resets at.keeps)) at
 
 pub reset_ends : CountsJoin → PlansAreSetInOrder → (old mid : Kept) (found : Option PhoneStep) (end : StepEnd) (given : Beginning) (log : List Event) (from to : Moment) → IsAskedOf old mid found → found ≡ Some step.Reset
-    → ((old : CardView) (before : List ℕ) → IsSeen old from → from.taken ≡ Some before → GivesStep (Err end) old before run.Reset from to) → IsAt given log old from → RunEnds given (lines_back log) to end
+    → ((old : CardView) → IsSeen old from → GivesStep (Err end) old run.Reset from to) → IsAt given log old from → RunEnds given (lines_back log) to end
 reset_ends join order old mid found end given log from to asking is gives at = ends_reset join order given log end old from to (reset_so old mid found (history log) asking is at.keeps) gives at
 
 pub reset_more : LinesEnd → (old mid new : Kept) (found : Option PhoneStep) (outcome : AReset) → IsAskedOf old mid found → found ≡ Some step.Reset → ((h : List Happened) → mid ≡ kept h → new ≡ kept (reset_by outcome ∷ h)) → IsPhoneServed old → IsServedMore old new
@@ -148,23 +148,16 @@ note_so old mid found note h asking is keeps = is_note h note (sym (asking.item 
 pub note_keeps : (old mid : Kept) (found : Option PhoneStep) (note : Note) (h : List Happened) → IsAskedOf old mid found → asked h ≡ Show note → old ≡ kept h → mid ≡ kept (Noted note ∷ h)
 note_keeps old mid found note h asking shows keeps = asking.after h keeps ∙ ap kept (next_is h (Show note) shows)
 
-pub front_taken : (was now : Option (List ℕ)) (part before : List ℕ) → Becomes (TakesFront part) was now → was ≡ Some before → IsFrontTaken now before part
-front_taken None now part before front told = absurd (cc)
-front_taken (Some was) None part before front told = absurd front
-front_taken (Some was) (Some now) part before front told =
-    let same : was ≡ before = cc in
-    record { front = front.0; begun = front.1; written = ap Some front.2 ∙ ap (λ start. Some (start ++ front.0)) same }
-
 pub note_further : (old mid : Kept) (found : Option PhoneStep) (note : Note) (given : Beginning) (log : List Event) (from : Moment) (taken : Option (List ℕ)) → IsAskedOf old mid found → found ≡ Some (step.Note note)
     → taken ≡ append_known from.taken (note_line note) → IsAt given log old from → Reaches given (lines_back log) mid (record from { taken = taken })
 note_further old mid found note given log from taken asking is more at =
     let shows = note_so old mid found note (history log) asking is at.keeps in
-    reaches_noted given log note old mid from taken shows (λ before told. told_more from.taken taken (note_line note) before more told) (note_keeps old mid found note (history log) asking shows at.keeps) at
+    reaches_noted given log note old mid from taken shows more (note_keeps old mid found note (history log) asking shows at.keeps) at
 
 pub note_ends : (old mid : Kept) (found : Option PhoneStep) (note : Note) (given : Beginning) (log : List Event) (from : Moment) (taken : Option (List ℕ)) → ((card : CardView) → IsSeen card from → Holds card from.held)
     → IsAskedOf old mid found → found ≡ Some (step.Note note) → Becomes (TakesFront (note_line note)) from.taken taken → IsAt given log old from → BreaksSo given (lines_back log) (record from { taken = taken })
 note_ends old mid found note given log from taken stands asking is err at =
-    ends_noted given log note old from taken stands (note_so old mid found note (history log) asking is at.keeps) (λ before told. front_taken from.taken taken (note_line note) before err told) at
+    ends_noted given log note old from taken stands (note_so old mid found note (history log) asking is at.keeps) (told_front from.taken taken (note_line note) err) at
 
 pub note_more : LinesEnd → (old mid : Kept) (found : Option PhoneStep) (note : Note) → IsAskedOf old mid found → found ≡ Some (step.Note note) → IsPhoneServed old → IsServedMore old mid
 note_more ending old mid found note asking is served =

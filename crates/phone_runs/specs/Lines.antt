@@ -1,4 +1,5 @@
 -- What the lines of a script are for a handset, and how its run over them ends.
+use Rattle.std.specs.Io.KnownBytes.{append_known}
 use Rattle.std.specs.List.{AllPass, flat_map}
 use Rattle.std.specs.Prelude.{◌≡◌, ℕ, List, ◌++◌, reverse, Option, Some, Bool, true, is_some, [], ◌∷◌, None}
 use Rattle.uicc_types.specs.declared.plans.TheConstants.Plan.{NONE}
@@ -16,7 +17,7 @@ use Rattle.card_model.specs.Runs.{plan_given}
 use Rattle.handset_model.specs.Legal.{IsLegal}
 use Rattle.handset_model.specs.Rules.{asked}
 use Rattle.handset_model.specs.declared.known.Duty.TheVariants.{Rest}
-use Rattle.run_steps.specs.Stepping.{Moment, Stands}
+use Rattle.run_steps.specs.Stepping.{IsSeen, Moment, Stands}
 use Rattle.run_steps.specs.Views.{CardView, RunShows}
 use Rattle.run_steps.specs.declared.steps.StepEnd.{StepEnd}
 use Rattle.run_steps.specs.declared.steps.StepEnd.TheVariants as step_end
@@ -74,8 +75,9 @@ pub record PhoneEnds (text : List ℕ) (opening : List ScriptLine) (given : Begi
   pub legal : IsLegal (heard (log_lines log)) (trace log)
   pub of_card : RunShows given.first (steps log) (shown log) card
   pub cause : StopsReading may_be_heard text found left end
+  pub seen : IsSeen card now
   pub stands : Stands card (shown log) now
-  pub written : now.taken ≡ Some (given.before ++ entries_text (trace log))
+  pub written : now.taken ≡ append_known given.before (entries_text (trace log))
   pub counted : IsCounted given.meter now.meter (plan_given (steps log)) (shown log)
 
 -- The run ended in what the handset did by these lines, or in its start, before any line: the sink failed, or the memory in a reset. What the

@@ -13,7 +13,7 @@ use Rattle.phone_runs.specs.LoadRuns.{all_heard, FailsAmid, IsCountedRun}
 use Rattle.phone_runs.specs.Logs.{Event, history, log_lines}
 use Rattle.phone_runs.specs.Runs.{Beginning}
 use Rattle.phone_runs.specs.Settling.{IsAt}
-use Rattle.phone_runs.specs.declared.counting.MemoryFailed.{MemoryFailed}
+use Rattle.run_steps.specs.declared.steps.MemoryFailed.{MemoryFailed}
 
 -- these lines are still to come, and the others were carried out
 pub record IsLoading (made : List HandsetLine) (given : Beginning) (others : List HandsetLine) (phone : Kept) (now : Moment) : Type 0 where

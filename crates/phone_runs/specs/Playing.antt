@@ -1,5 +1,5 @@
 -- The lines of a script, carried out by a handset.
-use Rattle.std.specs.Prelude.{◌≡◌, ℕ, ◌+◌, ◌<◌, ◌^◌, [], Some, true, false, ◌∷◌}
+use Rattle.std.specs.Prelude.{◌≡◌, ℕ, ◌+◌, ◌<◌, ◌^◌, [], true, false, ◌∷◌}
 use Rattle.uicc_types.specs.declared.plans.TheConstants.Plan.{NONE}
 use Rattle.script_form.specs.declared.lines.ScriptLine.{ScriptLine}
 use Rattle.card_model.specs.Counts.{IsCounted}
@@ -33,7 +33,7 @@ IsFit clock (move.Plans plan) = Unit {0}
 -- nothing has happened yet of which the counts tell, and no fault is planned or to be mended
 pub record Begins (given : Beginning) (now : Moment) : Type 0 where
   pub seen : IsSeen given.first now
-  pub written : now.taken ≡ Some given.before
+  pub written : now.taken ≡ given.before
   pub counted : IsCounted given.meter now.meter [] []
   pub waits : now.waiting ≡ NONE
   pub rests : Rests given.first [] now.is_due

@@ -1,7 +1,8 @@
 -- A run of a handset that serves a card: what is sent to the card and noted is what the rules of the handset ask for, and what is
 -- seen of the card is how the card moves.
+use Rattle.std.specs.Io.KnownBytes.{append_known}
 use Rattle.std.specs.List.{flat_map}
-use Rattle.std.specs.Prelude.{◌≡◌, ℕ, List, [], ◌∷◌, ◌++◌, Some, reverse, map, ◌⊎◌}
+use Rattle.std.specs.Prelude.{◌≡◌, ℕ, List, [], ◌∷◌, ◌++◌, Option, reverse, map, ◌⊎◌}
 use Rattle.uicc_types.specs.Counts.{Meter}
 use Rattle.uicc_types.specs.Told.{IsFront}
 use Rattle.uicc_types.specs.declared.plans.Plan.{Plan}
@@ -47,10 +48,10 @@ pub record IsPhoneRun (first : CardView) (log : List Event) (now : CardView) : T
   pub in_turn : AreInTurn log
   pub run : StepsShow first (steps log) (shown log) now
 
--- what a run begins with: how the card is seen, what the sink has taken already, and the counts of the memory's device
+-- what a run begins with: how the card is seen, what the sink has taken already, where it tells that, and the counts of the memory's device
 pub record Beginning : Type 0 where
   pub first : CardView
-  pub before : List ℕ
+  pub before : Option (List ℕ)
   pub meter : Meter
 
 -- ---- how it ends before the handset rests
@@ -64,7 +65,7 @@ pub record BreaksInStep (given : Beginning) (log : List Event) (old : CardView) 
   pub broken : BreaksOff old step pending (armed_after (waiting_after NONE (steps log)) (step ∷ [])) set card
   pub cut_off : IsCutOff pending front
   pub stands : Holds card now.held
-  pub written : now.taken ≡ Some (given.before ++ entries_text (trace log) ++ front)
+  pub written : now.taken ≡ append_known given.before (entries_text (trace log) ++ front)
   pub counted : IsCounted given.meter now.meter (plan_given (steps log) ++ set) (shown log ++ pending)
 
 -- the sink failed in a note, of which it has taken the beginning, be it none or all
@@ -72,7 +73,7 @@ pub record BreaksInNote (given : Beginning) (log : List Event) (old : CardView) 
   pub front : List ℕ
   pub begun : IsFront front (note_line note)
   pub stands : Holds old now.held
-  pub written : now.taken ≡ Some (given.before ++ entries_text (trace log) ++ front)
+  pub written : now.taken ≡ append_known given.before (entries_text (trace log) ++ front)
   pub counted : IsCounted given.meter now.meter (plan_given (steps log)) (shown log)
 
 -- the sink failed in what is asked for
@@ -101,7 +102,7 @@ pub record FailsSo (given : Beginning) (heard : List PhoneLine) (now : Moment) :
   pub last : List TraceItem
   pub ends : LastShows old step.Reset last card
   pub stands : Holds card now.held
-  pub written : now.taken ≡ Some (given.before ++ entries_text (trace log) ++ text_of last)
+  pub written : now.taken ≡ append_known given.before (entries_text (trace log) ++ text_of last)
   pub counted : IsCounted given.meter now.meter (plan_given (steps log ++ step.Reset ∷ [])) (shown log ++ last)
 
 -- why it ended
@@ -116,7 +117,7 @@ pub record ShowsTrace (given : Beginning) (told : List PhoneLine) (entries : Lis
   pub begun : IsBegun (heard (reverse told)) entries
   pub front : List ℕ
   pub is_front : IsFront front (entries_text entries)
-  pub written : now.taken ≡ Some (given.before ++ front)
+  pub written : now.taken ≡ append_known given.before front
 
 -- it has taken the beginning of such a one
 pub record ShowsBegun (given : Beginning) (told : List PhoneLine) (now : Moment) : Type 0 where

@@ -1,6 +1,7 @@
 -- Where the run of a handset stands between two things that are asked for, and what comes of these. The contracts of the functions that
 -- have a handset serve a card say this; a whole run is told without it.
-use Rattle.std.specs.Prelude.{◌≡◌, List, ◌++◌, Some, true, false, Result, Ok, Err, Bool}
+use Rattle.std.specs.Prelude.{◌≡◌, List, true, false, Result, Ok, Err, Bool}
+use Rattle.std.specs.Io.KnownBytes.{append_known}
 use Rattle.uicc_types.specs.declared.plans.TheConstants.Plan.{NONE}
 use Rattle.card_model.specs.Counts.{IsCounted}
 use Rattle.card_model.specs.Runs.{plan_given, waiting_after}
@@ -20,7 +21,7 @@ pub record IsAt (given : Beginning) (log : List Event) (phone : Kept) (now : Mom
   pub run : IsPhoneRun given.first log card
   pub keeps : phone ≡ kept (history log)
   pub seen : IsSeen card now
-  pub written : now.taken ≡ Some (given.before ++ entries_text (trace log))
+  pub written : now.taken ≡ append_known given.before (entries_text (trace log))
   pub counted : IsCounted given.meter now.meter (plan_given (steps log)) (shown log)
   pub waits : now.waiting ≡ waiting_after NONE (steps log)
   pub rests : CardRests card (shown log) now.is_due

@@ -14,13 +14,9 @@ use crate::playing::{hear_line, start_phone};
 use crate::serving::Places;
 use applet_trait::Applet;
 use long_runs::{CountingSink, Counts, LoadLines};
-use run_steps::{CardEnd, Carrier, StepEnd};
+use run_steps::{CardEnd, Carrier, MemoryFailed, StepEnd};
 use store_form::Store;
 use terminal_side::Phone;
-
-/// The memory failed in a reset.
-#[derive(Clone, Copy, Debug, PartialEq, Eq)]
-pub struct MemoryFailed;
 
 /// Starts a handset on a card that was just opened, has it carry out `count` lines that are made from the number `start`, and
 /// counts what its trace would show. It takes no memory.
@@ -29,7 +25,7 @@ pub fn count_lines<S: Store, B: Applet>(
     start: u32,
     count: u32,
 ) -> Result<Counts, MemoryFailed>
-    ensures counts { (given : Beginning) → given.before ≡ [] → Begins given (moment_at card.old (Some []))
+    ensures counts { (given : Beginning) → given.before ≡ Some [] → Begins given (moment_at card.old (Some []))
         → Gives (made_lines start count) given card.new.parts result }
     ensures kept { card.old.parts.meter.faults ≤ card.new.parts.meter.faults }
     ensures failed { IsErr result → Rose card.old.parts.meter.faults card.new.parts.meter.faults }

@@ -12,7 +12,7 @@ mod load_laws;
 mod playing;
 mod serving;
 
-pub use counting::{MemoryFailed, count_lines};
+pub use counting::count_lines;
 pub use effects::{LONGEST_SPAN, PhoneEffect, effect_on_phone};
 pub use fetching::{
     announced_commands_are_fetched, details_are_read, responses_are_read, responses_are_taken,

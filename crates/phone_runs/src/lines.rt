@@ -2,13 +2,11 @@
 ghost use Rattle.std.specs.Prelude.{◌≡◌, List, ℕ, Err, OnOk};
 ghost use Rattle.byte_streams.specs.Reading.{IsWithin};
 ghost use Rattle.script_form.specs.declared.lines.ScriptLine.{ScriptLine as AnyLine};
-ghost use Rattle.script_reader.specs.Behind.{GivesRead, IsReading};
 ghost use Rattle.script_reader.specs.Reading.{reading};
 ghost use Rattle.run_steps.specs.Ends.{moment_at};
 ghost use Rattle.run_steps.specs.Tallies.{tally};
 ghost use Rattle.phone_runs.specs.LineTallies.{TalliesLines};
 ghost use Rattle.phone_runs.specs.BetweenLines.{EndsAmid, GivesServed, IsBetweenLines, IsLineFurther, IsServing};
-ghost use Rattle.phone_runs.specs.Lines.{may_be_heard};
 ghost use Rattle.phone_runs.specs.Runs.{Beginning};
 
 use crate::effects::{PhoneEffect, effect_on_phone};
@@ -40,10 +38,6 @@ pub fn serve_line<S: Store, B: Applet, R: Source, W: Sink>(
         (moment_at card.old (W.taken trace.old))
         → GivesServed text opening given script.new (R.left source.new) phone.new
         (moment_at card.new (W.taken trace.new)) result }
-    // Which lines were read, over any memory, and why no more of them.
-    ensures reads { (text : List ℕ) (opening : List AnyLine)
-        → IsReading may_be_heard opening text script.old (R.left source.old)
-        → GivesRead may_be_heard opening text script.new (R.left source.new) result }
     ensures further { OnOk result (IsLineFurther script.old script.new phone.new) }
     ensures within { (text : List ℕ) → IsWithin text (reading script.old) (R.left source.old)
         → IsWithin text (reading script.new) (R.left source.new) }

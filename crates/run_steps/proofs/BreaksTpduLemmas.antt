@@ -1,5 +1,5 @@
 -- What the sink has taken of a TPDU's lines.
-use Rattle.std.proofs.Common.{◌≡◌, ℕ, List, [], ◌∷◌, ◌++◌, Option, Some, refl, sym, ap, ◌∙◌, append_assoc, inl, inr}
+use Rattle.std.proofs.Common.{◌≡◌, ℕ, List, [], ◌∷◌, ◌++◌, Option, refl, sym, ap, ◌∙◌, inl, inr}
 use Rattle.std.specs.Io.KnownBytes.{append_known}
 use Rattle.uicc_types.specs.Told.{Becomes}
 use Rattle.uicc_types.specs.declared.answers.Answer.{Answer}
@@ -13,33 +13,33 @@ use Rattle.card_model.specs.Runs.{armed_after}
 use Rattle.run_steps.specs.Ends.{End, moment_at}
 use Rattle.run_steps.specs.TakingTpdus.{BreaksTpdu, Delivers, TakesTpdu}
 use Rattle.run_steps.specs.Tpdus.{steps_of, shown_for}
-use Rattle.run_steps.proofs.SteppingLemmas.{ToldFront, holds_seen, idle_counted, in_one_line, text_of_one, text_of_two, told_front, told_more}
+use Rattle.run_steps.proofs.SteppingLemmas.{holds_seen, idle_counted, in_one_line, text_of_one, text_of_two, told_front, told_more}
 use Rattle.run_steps.specs.Runs.{item_text}
 use Rattle.run_steps.specs.Taking.{machine_of}
 use Rattle.run_steps.specs.Stepping.{IsSeenBy}
 use Rattle.run_steps.specs.Views.{CardView}
 
-module _ (tpdu before : List ℕ) (old : CardView) (course : Course) (keeps kept : Option Answer) where
+module _ (tpdu : List ℕ) (old : CardView) (course : Course) (keeps kept : Option Answer) where
   -- both lines were written
-  pub takes : (from to : End) (taken mid now : Option (List ℕ)) (reply : TraceItem) → taken ≡ Some before → Delivers old course reply kept from to
-      → mid ≡ append_known taken (trace_text (line.Command tpdu)) → now ≡ append_known mid (item_text reply) → TakesTpdu old before tpdu course kept (moment_at from taken) (moment_at to now)
-  takes from to taken mid now reply told delivered command replied = record {
+  pub takes : (from to : End) (taken mid now : Option (List ℕ)) (reply : TraceItem) → Delivers old course reply kept from to
+      → mid ≡ append_known taken (trace_text (line.Command tpdu)) → now ≡ append_known mid (item_text reply) → TakesTpdu old tpdu course kept (moment_at from taken) (moment_at to now)
+  takes from to taken mid now reply delivered command replied = record {
     card = delivered.card;
     own = delivered.own;
     reply = reply;
     seen = delivered.seen;
     gives = delivered.gives;
-    written = told_more mid now (item_text reply) (before ++ item_text (item.Command tpdu)) replied (told_more taken mid (item_text (item.Command tpdu)) before command told) ∙ ap Some (text_of_two (item.Command tpdu) reply before);
+    written = told_more taken mid now (item_text (item.Command tpdu)) (item_text reply) replied command ∙ ap (append_known taken) (text_of_two (item.Command tpdu) reply);
     counted = delivered.counted;
     waits = delivered.waits;
     rests = delivered.rests;
   }
 
   -- the sink failed in the second line
-  pub breaks_reply : (from to : End) (taken mid now : Option (List ℕ)) (reply : TraceItem) → taken ≡ Some before → Delivers old course reply kept from to
-      → mid ≡ append_known taken (trace_text (line.Command tpdu)) → Becomes (TakesFront (item_text reply)) mid now → BreaksTpdu old before tpdu course keeps kept (moment_at from taken) (moment_at to now)
-  breaks_reply from to taken mid now reply told delivered command broken =
-      let front : ToldFront now (item_text reply) (before ++ item_text (item.Command tpdu)) = told_front mid now (item_text reply) (before ++ item_text (item.Command tpdu)) broken (told_more taken mid (item_text (item.Command tpdu)) before command told) in
+  pub breaks_reply : (from to : End) (taken mid now : Option (List ℕ)) (reply : TraceItem) → Delivers old course reply kept from to
+      → mid ≡ append_known taken (trace_text (line.Command tpdu)) → Becomes (TakesFront (item_text reply)) mid now → BreaksTpdu old tpdu course keeps kept (moment_at from taken) (moment_at to now)
+  breaks_reply from to taken mid now reply delivered command broken =
+      let front = told_front mid now (item_text reply) broken in
       record {
         card = delivered.card;
         own = delivered.own;
@@ -56,15 +56,15 @@ module _ (tpdu before : List ℕ) (old : CardView) (course : Course) (keeps kept
           begun = front.begun;
           written = ap (λ start. start ++ front.front) (sym (text_of_one (item.Command tpdu)));
         };
-        written = front.written ∙ ap Some (append_assoc before (item_text (item.Command tpdu)) front.front);
+        written = told_more taken mid now (item_text (item.Command tpdu)) front.front front.written command;
         counted = delivered.counted;
       }
 
 -- the sink failed in the line of the TPDU
-pub breaks_tpdu : (tpdu before : List ℕ) (old : CardView) (course : Course) (keeps : Option Answer) (end : End) (taken now : Option (List ℕ)) → IsSeenBy old (machine_of end.parts) end.parts.is_on → taken ≡ Some before
-    → Becomes (TakesFront (trace_text (line.Command tpdu))) taken now → BreaksTpdu old before tpdu course keeps keeps (moment_at end taken) (moment_at end now)
-breaks_tpdu tpdu before old course keeps end taken now is told broken =
-    let front : ToldFront now (item_text (item.Command tpdu)) before = told_front taken now (item_text (item.Command tpdu)) before broken told in
+pub breaks_tpdu : (tpdu : List ℕ) (old : CardView) (course : Course) (keeps : Option Answer) (end : End) (taken now : Option (List ℕ)) → IsSeenBy old (machine_of end.parts) end.parts.is_on
+    → Becomes (TakesFront (trace_text (line.Command tpdu))) taken now → BreaksTpdu old tpdu course keeps keeps (moment_at end taken) (moment_at end now)
+breaks_tpdu tpdu old course keeps end taken now is broken =
+    let front = told_front taken now (item_text (item.Command tpdu)) broken in
     record {
       card = old;
       own = [];
@@ -73,7 +73,7 @@ breaks_tpdu tpdu before old course keeps end taken now is told broken =
       set = [];
       stands = holds_seen end.parts old is;
       broken = inl (refl, refl, refl, refl, refl);
-      cut_off = in_one_line (item.Command tpdu) before now front;
+      cut_off = in_one_line (item.Command tpdu) taken now front;
       written = front.written;
       counted = idle_counted end.parts.meter;
     }

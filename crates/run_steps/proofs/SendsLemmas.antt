@@ -1,5 +1,5 @@
 -- What a command and a reset make of a card.
-use Rattle.std.proofs.Common.{◌≡◌, ℕ, Bool, true, false, List, [], ◌∷◌, Option, Some, None, refl, sym, ap, ◌∙◌, subst, inl, inr, option_map, IfSome, IsSomeAnd, MatchBool, not, ◌==◌, ◌≢◌, ◌⊎◌}
+use Rattle.std.proofs.Common.{◌≡◌, ℕ, Bool, true, false, List, [], ◌∷◌, Option, Some, None, Ok, Err, refl, sym, ap, ◌∙◌, subst, inl, inr, option_map, IfSome, IsSomeAnd, MatchBool, not, ◌==◌, ◌≢◌, ◌⊎◌}
 use Rattle.list_laws.proofs.IfSomeLemmas.{if_some_at}
 use Rattle.uicc_types.specs.Counts.{Caused, Meter}
 use Rattle.uicc_types.specs.declared.answers.Answer.{Answer}
@@ -18,7 +18,8 @@ use Rattle.run_steps.specs.Runs.{is_calm}
 use Rattle.run_steps.specs.Taking.{machine_of, Resets, Sends}
 use Rattle.run_steps.proofs.StandingLemmas.{card_stands, is_machine, machine_is}
 use Rattle.run_steps.specs.Views.{IsBare, IsReply}
-use Rattle.run_steps.specs.declared.steps.ResetOutcome.TheVariants as restart
+use Rattle.run_steps.specs.declared.steps.MemoryFailed.{MemoryFailed}
+use Rattle.run_steps.specs.declared.steps.Restarted.TheVariants as ended
 
 -- an answer that tells of no failing memory
 calm_usual : (status : StatusWord) → not (status.0 == MEMORY_PROBLEM.0) ≡ true → status ≡ MEMORY_PROBLEM → ⊥
@@ -126,11 +127,11 @@ caused_as old new caused fails failed loses lost = record {
 restarts_of : (from to : CardParts) (old : Machine) → machine_of from ≡ Some old → card_of to ≡ option_map restarted (card_of from) → card_of to ≡ Some (restarted old.card)
 restarts_of from to old is moved = moved ∙ ap (option_map restarted) (machine_is from old is).card
 
-pub resets_on : (from to : CardParts) (old : Machine) → machine_of from ≡ Some old → card_of to ≡ option_map restarted (card_of from) → to.is_on ≡ true → to.is_due ≡ false → Resets restart.Done old to
+pub resets_on : (from to : CardParts) (old : Machine) → machine_of from ≡ Some old → card_of to ≡ option_map restarted (card_of from) → to.is_on ≡ true → to.is_due ≡ false → Resets (Ok ended.Done) old to
 resets_on from to old is moved on rests = (is_machine to (restarted old.card) true (restarts_of from to old is moved) on, rests)
 
-pub resets_off : (from to : CardParts) (old : Machine) → machine_of from ≡ Some old → card_of to ≡ option_map restarted (card_of from) → to.is_on ≡ false → Resets restart.Cut old to
+pub resets_off : (from to : CardParts) (old : Machine) → machine_of from ≡ Some old → card_of to ≡ option_map restarted (card_of from) → to.is_on ≡ false → Resets (Ok ended.Cut) old to
 resets_off from to old is moved off = is_machine to (restarted old.card) false (restarts_of from to old is moved) off
 
-pub resets_failed : (from to : CardParts) (old : Machine) → machine_of from ≡ Some old → card_of to ≡ option_map restarted (card_of from) → Resets restart.Failed old to
-resets_failed from to old is moved = card_stands to (restarted old.card) (restarts_of from to old is moved)
+pub resets_failed : (failed : MemoryFailed) (from to : CardParts) (old : Machine) → machine_of from ≡ Some old → card_of to ≡ option_map restarted (card_of from) → Resets (Err failed) old to
+resets_failed failed from to old is moved = card_stands to (restarted old.card) (restarts_of from to old is moved)

@@ -12,6 +12,7 @@ use Rattle.uicc_types.specs.declared.runs.TraceItem.{TraceItem}
 use Rattle.uicc_types.specs.declared.runs.TraceItem.TheVariants as item
 use Rattle.byte_streams.specs.Streams.{TakesFront}
 use Rattle.script_form.specs.Traces.{trace_text}
+use Rattle.script_form.specs.declared.trace.TraceLine.{TraceLine}
 use Rattle.script_form.specs.declared.trace.TraceLine.TheVariants as line
 use Rattle.card_model.specs.Counts.{IsCounted}
 use Rattle.card_model.specs.Laws.{PlansAreCounted}
@@ -20,11 +21,12 @@ use Rattle.card_model.specs.States.{Machine, powered, unpowered, restarted}
 use Rattle.card_core.specs.Cards.{held_by}
 use Rattle.card_core.specs.Parts.{CardParts}
 use Rattle.card_core.proofs.RestartLemmas.{metered_same}
-use Rattle.run_steps.specs.declared.steps.ResetOutcome.{ResetOutcome}
-use Rattle.run_steps.specs.declared.steps.ResetOutcome.TheVariants as restart
-use Rattle.run_steps.specs.Ends.{Comes, End, disarmed, moment_at, planned, unplanned, with_plan_set, without_plan}
-use Rattle.run_steps.specs.Runs.{ends_calm, is_calm, item_text, text_of}
-use Rattle.run_steps.specs.Taking.{machine_of, BreaksStep, EndsStep, GivesShowing, Resets, Rests, RestsOn, Sends, TakesStep, moment, shown_of}
+use Rattle.run_steps.specs.declared.steps.MemoryFailed.{MemoryFailed}
+use Rattle.run_steps.specs.declared.steps.Restarted.{Restarted}
+use Rattle.run_steps.specs.declared.steps.Restarted.TheVariants as ended
+use Rattle.run_steps.specs.Ends.{Comes, End, TakesReset, disarmed, moment_at, planned, unplanned, with_plan_set, without_plan}
+use Rattle.run_steps.specs.Runs.{ends_calm, is_calm, item_text, line_of, text_of}
+use Rattle.run_steps.specs.Taking.{machine_of, BreaksStep, EndsStep, GivesShowing, GivesStep, Rests, RestsOn, Sends, TakesShowing, TakesStep, moment, restarted_by, shown_of}
 use Rattle.run_steps.specs.Stepping.{BreaksOff, Holds, IsCutOff, IsSeenBy, Stands}
 use Rattle.run_steps.specs.Views.{CardView, IsReply, ItsPower, Known, LastShows, StepShows, TheCard}
 use Rattle.run_steps.specs.declared.steps.StepEnd.{StepEnd}
@@ -33,33 +35,42 @@ use Rattle.run_steps.proofs.StandingLemmas.{machine_minds, machine_stands}
 
 -- ---- what was taken
 
--- a whole part was taken
-pub told_more : (was now : Option (List ℕ)) (part before : List ℕ) → now ≡ append_known was part → was ≡ Some before → now ≡ Some (before ++ part)
-told_more was now part before more told = more ∙ ap (λ start. append_known start part) told
+-- one part after another
+pub taken_then : (before : Option (List ℕ)) (first more : List ℕ) → append_known (append_known before first) more ≡ append_known before (first ++ more)
+taken_then None first more = refl
+taken_then (Some known) first more = ap Some (append_assoc known first more)
+
+-- nothing more
+pub taken_none : (before : Option (List ℕ)) → append_known before [] ≡ before
+taken_none None = refl
+taken_none (Some known) = ap Some (append-nil known)
+
+-- a part was taken, and then another
+pub told_more : (before was now : Option (List ℕ)) (first part : List ℕ) → now ≡ append_known was part → was ≡ append_known before first → now ≡ append_known before (first ++ part)
+told_more before was now first part more told = more ∙ ap (λ start. append_known start part) told ∙ taken_then before first part
 
 -- the beginning of a part was taken
-pub record ToldFront (now : Option (List ℕ)) (part before : List ℕ) : Type 0 where
+pub record ToldFront (was now : Option (List ℕ)) (part : List ℕ) : Type 0 where
   pub front : List ℕ
   pub begun : IsFront front part
-  pub written : now ≡ Some (before ++ front)
+  pub written : now ≡ append_known was front
 
-pub told_front : (was now : Option (List ℕ)) (part before : List ℕ) → Becomes (TakesFront part) was now → was ≡ Some before → ToldFront now part before
-told_front None now part before front told = absurd (cc)
-told_front (Some was) None part before front told = absurd front
-told_front (Some was) (Some now) part before front told =
-    let same : was ≡ before = cc in
-    record { front = front.0; begun = front.1; written = ap Some front.2 ∙ ap (λ start. Some (start ++ front.0)) same }
+pub told_front : (was now : Option (List ℕ)) (part : List ℕ) → Becomes (TakesFront part) was now → ToldFront was now part
+told_front None None part broken = record { front = []; begun = (part, refl); written = refl }
+told_front None (Some now) part broken = absurd broken
+told_front (Some was) None part broken = absurd broken
+told_front (Some was) (Some now) part broken = record { front = broken.0; begun = broken.1; written = ap Some broken.2 }
 
 -- the text of one item, and of two
 pub text_of_one : (one : TraceItem) → text_of (one ∷ []) ≡ item_text one
 text_of_one one = append-nil (item_text one)
 
-pub text_of_two : (one two : TraceItem) (before : List ℕ) → (before ++ item_text one) ++ item_text two ≡ before ++ text_of (one ∷ two ∷ [])
-text_of_two one two before = append_assoc before (item_text one) (item_text two) ∙ ap (λ back. before ++ (item_text one ++ back)) (sym (append-nil (item_text two)))
+pub text_of_two : (one two : TraceItem) → item_text one ++ item_text two ≡ text_of (one ∷ two ∷ [])
+text_of_two one two = ap (λ back. item_text one ++ back) (sym (append-nil (item_text two)))
 
 -- the only line that was to be taken broke off
-pub in_one_line : (one : TraceItem) (before : List ℕ) (now : Option (List ℕ)) → (told : ToldFront now (item_text one) before) → IsCutOff (one ∷ []) told.front
-in_one_line one before now told = record { whole = []; last = one; part = told.front; parted = refl; begun = told.begun; written = refl }
+pub in_one_line : (one : TraceItem) (was now : Option (List ℕ)) → (told : ToldFront was now (item_text one)) → IsCutOff (one ∷ []) told.front
+in_one_line one was now told = record { whole = []; last = one; part = told.front; parted = refl; begun = told.begun; written = refl }
 
 -- ---- counts
 
@@ -184,25 +195,22 @@ command_showed (ItsPower on) apdu shown set sent seen sends replies = record {
   rests = tt;
 }
 
-pub reset_showed : (old : CardView) (set sent : CardParts) → IsSeenBy old (machine_of set) set.is_on → ((machine : Machine) → machine_of set ≡ Some machine → Resets restart.Done machine sent) → sent.is_on ≡ true
-    → Showed old step.Reset (item.Reset ∷ []) item.Reset sent
-reset_showed (TheCard machine) set sent seen resets on = record {
+-- the card was reset, or power was lost in that
+reset_showed : (old : CardView) (outcome : Restarted) (set sent : CardParts) → IsSeenBy old (machine_of set) set.is_on → TakesReset set (Ok outcome) sent → Showed old step.Reset (restarted_by outcome) (shown_of (Ok outcome)) sent
+reset_showed (TheCard machine) ended.Done set sent seen takes = record {
   card = TheCard (powered (restarted machine.card));
-  seen = (resets machine seen).0;
+  seen = (takes.resets machine seen).0;
   gives = inl (record { seen = refl; moved = refl });
-  rests = λ calm. (resets machine seen).1;
+  rests = λ calm. (takes.resets machine seen).1;
 }
-reset_showed (ItsPower b) set sent seen resets on = record { card = ItsPower true; seen = on; gives = inl (refl, refl); rests = tt }
-
-pub cut_showed : (old : CardView) (set sent : CardParts) → IsSeenBy old (machine_of set) set.is_on → ((machine : Machine) → machine_of set ≡ Some machine → Resets restart.Cut machine sent) → sent.is_on ≡ false
-    → Showed old step.Reset (item.Cut ∷ []) item.Cut sent
-cut_showed (TheCard machine) set sent seen resets off = record {
+reset_showed (TheCard machine) ended.Cut set sent seen takes = record {
   card = TheCard (unpowered (restarted machine.card));
-  seen = resets machine seen;
+  seen = takes.resets machine seen;
   gives = inr (record { seen = refl; moved = refl });
   rests = λ calm. absurd (cc);
 }
-cut_showed (ItsPower b) set sent seen resets off = record { card = ItsPower false; seen = off; gives = inr (refl, refl); rests = tt }
+reset_showed (ItsPower b) ended.Done set sent seen takes = record { card = ItsPower true; seen = takes.on refl; gives = inl (refl, refl); rests = tt }
+reset_showed (ItsPower b) ended.Cut set sent seen takes = record { card = ItsPower false; seen = takes.off refl; gives = inr (refl, refl); rests = tt }
 
 -- the memory failed in a reset
 pub record Failed (old : CardView) (sent : CardParts) : Type 0 where
@@ -210,9 +218,9 @@ pub record Failed (old : CardView) (sent : CardParts) : Type 0 where
   pub stands : Holds card (held_by sent)
   pub ends : LastShows old step.Reset (item.EepromFailed ∷ []) card
 
-pub reset_failed_so : (old : CardView) (set sent : CardParts) → IsSeenBy old (machine_of set) set.is_on → ((machine : Machine) → machine_of set ≡ Some machine → Resets restart.Failed machine sent) → Failed old sent
-reset_failed_so (TheCard machine) set sent seen resets = record { card = TheCard (powered (restarted machine.card)); stands = resets machine seen; ends = record { seen = refl; moved = refl } }
-reset_failed_so (ItsPower on) set sent seen resets = record { card = ItsPower on; stands = tt; ends = refl }
+reset_failed_so : (old : CardView) (failed : MemoryFailed) (set sent : CardParts) → IsSeenBy old (machine_of set) set.is_on → TakesReset set (Err failed) sent → Failed old sent
+reset_failed_so (TheCard machine) failed set sent seen takes = record { card = TheCard (powered (restarted machine.card)); stands = takes.resets machine seen; ends = record { seen = refl; moved = refl } }
+reset_failed_so (ItsPower on) failed set sent seen takes = record { card = ItsPower on; stands = tt; ends = refl }
 
 holds_back : (is_given : Bool) (sent after : End) (card : CardView) → after ≡ without_plan is_given sent → Holds card (held_by sent.parts) → Holds card (held_by after.parts)
 holds_back is_given sent after card back holds = subst (λ (e : End). Holds card (held_by e.parts)) (sym back) holds
@@ -220,13 +228,8 @@ holds_back is_given sent after card back holds = subst (λ (e : End). Holds card
 -- ---- what the sink has taken of a step
 
 -- the lines before the last one were taken, and so was that
-text_behind : (whole : List TraceItem) (shown : TraceItem) (before : List ℕ) → (before ++ text_of whole) ++ item_text shown ≡ before ++ text_of (whole ++ shown ∷ [])
-text_behind whole shown before =
-    append_assoc before (text_of whole) (item_text shown) ∙ ap (λ back. before ++ (text_of whole ++ back)) (sym (text_of_one shown)) ∙ ap (λ back. before ++ back) (sym (flat_map-append item_text whole (shown ∷ [])))
-
--- the last one broke off
-abbrev cut_off_behind : (whole : List TraceItem) (shown : TraceItem) (before : List ℕ) (now : Option (List ℕ)) → (told : ToldFront now (item_text shown) before) → IsCutOff (whole ++ shown ∷ []) (text_of whole ++ told.front)
-cut_off_behind whole shown before now told = record { whole = whole; last = shown; part = told.front; parted = refl; begun = told.begun; written = refl }
+text_behind : (whole : List TraceItem) (shown : TraceItem) → text_of whole ++ item_text shown ≡ text_of (whole ++ shown ∷ [])
+text_behind whole shown = ap (λ back. text_of whole ++ back) (sym (text_of_one shown)) ∙ sym (flat_map-append item_text whole (shown ∷ []))
 
 pub rests_back : (card : CardView) (items : List TraceItem) (shown : TraceItem) (from sent after : Bool) → after ≡ sent → ((calm : ends_calm items ≡ true) → is_calm shown ≡ true) → (items ≡ [] → ⊥)
     → Known (λ (machine : Machine). is_calm shown ≡ true → sent ≡ false) (λ on. Unit {0}) card → RestsOn card items from after
@@ -234,20 +237,20 @@ rests_back (TheCard machine) items shown from sent after same last some rests = 
 rests_back (ItsPower on) items shown from sent after same last some rests = tt
 
 -- a step that was taken, with a plan set before it and taken back behind it: its last line was written, or the sink failed in that
-module _ (old : CardView) (step : Step) (whole : List TraceItem) (shown : TraceItem) (before : List ℕ) (from set sent after : End) (taken mid now : Option (List ℕ)) (plans : PlansAreCounted)
+module _ (old : CardView) (step : Step) (whole : List TraceItem) (shown : TraceItem) (from set sent after : End) (taken mid now : Option (List ℕ)) (plans : PlansAreCounted)
     (showed : Showed old step (whole ++ shown ∷ []) shown sent.parts) (with_it : WithPlan from set sent after) (counts : IsCounted from.parts.meter after.parts.meter (armed_after from.waiting (step ∷ [])) (whole ++ shown ∷ []))
     (waits : waiting_after from.waiting (step ∷ []) ≡ NONE) (last : ends_calm (whole ++ shown ∷ []) ≡ true → is_calm shown ≡ true) (some : whole ++ shown ∷ [] ≡ [] → ⊥)
     (off : (card : CardView) → StepShows old step (whole ++ shown ∷ []) card → BreaksOff old step (whole ++ shown ∷ []) (armed_after from.waiting (step ∷ [])) (armed_after from.waiting (step ∷ [])) card)
-    (told : mid ≡ Some (before ++ text_of whole)) where
+    (told : mid ≡ append_known taken (text_of whole)) where
   pub writes_last : (result : Result (Unit {0}) StepEnd) → OnOk result (now ≡ append_known mid (item_text shown)) → OnErr result (Becomes (TakesFront (item_text shown)) mid now) → OnErr result (result ≡ Err SinkFailed)
-      → GivesShowing result (λ done. whole ++ shown ∷ []) old before step (moment_at from taken) (moment_at after now)
+      → GivesShowing result (λ done. whole ++ shown ∷ []) old step (moment_at from taken) (moment_at after now)
   writes_last (Ok done) ok err sink = record {
     taken = record {
       card = showed.card;
       shown = whole ++ shown ∷ [];
       seen = seen_back (names_fault from.waiting) sent after showed.card with_it.back showed.seen;
       gives = showed.gives;
-      written = told_more mid now (item_text shown) (before ++ text_of whole) ok told ∙ ap Some (text_behind whole shown before);
+      written = told_more taken mid now (text_of whole) (item_text shown) ok told ∙ ap (append_known taken) (text_behind whole shown);
       counted = counts;
       waits = none_waits from set sent after with_it ∙ sym waits;
       rests = rests_back showed.card (whole ++ shown ∷ []) shown from.parts.is_due sent.parts.is_due after.parts.is_due (ap (λ (e : End). e.parts.is_due) with_it.back) last some showed.rests;
@@ -255,7 +258,7 @@ module _ (old : CardView) (step : Step) (whole : List TraceItem) (shown : TraceI
     shows = refl;
   }
   writes_last (Err SinkFailed) ok err sink =
-      let front : ToldFront now (item_text shown) (before ++ text_of whole) = told_front mid now (item_text shown) (before ++ text_of whole) err told in
+      let front = told_front mid now (item_text shown) err in
       record {
         card = showed.card;
         pending = whole ++ shown ∷ [];
@@ -264,7 +267,7 @@ module _ (old : CardView) (step : Step) (whole : List TraceItem) (shown : TraceI
         stands = holds_seen after.parts showed.card (seen_back (names_fault from.waiting) sent after showed.card with_it.back showed.seen);
         broken = off showed.card showed.gives;
         cut_off = record { whole = whole; last = shown; part = front.front; parted = refl; begun = front.begun; written = refl };
-        written = front.written ∙ ap Some (append_assoc before (text_of whole) front.front);
+        written = told_more taken mid now (text_of whole) front.front front.written told;
         counted = counts;
       }
   writes_last (Err ResetFailed) ok err sink = absurd (cc)
@@ -277,22 +280,22 @@ counted_with_plan plans from set sent after shown done counts =
     counted_after plans from.parts.meter set.parts.meter sent.parts.meter after.parts.meter from.waiting (shown ∷ []) (ap (λ (e : End). e.parts.meter) done.given) (ap (λ (e : End). e.parts.meter) done.back) counts
 
 -- a command that came to it, and what came of that
-pub exchanges_at : (result : Result (Unit {0}) StepEnd) (apdu before : List ℕ) (old : CardView) (from set sent after : End) (taken mid now : Option (List ℕ)) (shown : TraceItem)
-    → PlansAreCounted → IsSeenBy old (machine_of from.parts) from.parts.is_on → taken ≡ Some before → WithPlan from set sent after → mid ≡ append_known taken (trace_text (line.Command apdu)) → Comes set apdu shown sent
+pub exchanges_at : (result : Result (Unit {0}) StepEnd) (apdu : List ℕ) (old : CardView) (from set sent after : End) (taken mid now : Option (List ℕ)) (shown : TraceItem)
+    → PlansAreCounted → IsSeenBy old (machine_of from.parts) from.parts.is_on → WithPlan from set sent after → mid ≡ append_known taken (trace_text (line.Command apdu)) → Comes set apdu shown sent
     → OnOk result (now ≡ append_known mid (item_text shown)) → OnErr result (Becomes (TakesFront (item_text shown)) mid now) → OnErr result (result ≡ Err SinkFailed)
-    → GivesShowing result (λ done. item.Command apdu ∷ shown ∷ []) old before (step.Apdu apdu) (moment_at from taken) (moment_at after now)
-exchanges_at result apdu before old from set sent after taken mid now shown plans is told with_it command comes ok err sink =
-    writes_last old (step.Apdu apdu) (item.Command apdu ∷ []) shown before from set sent after taken mid now plans
+    → GivesShowing result (λ done. item.Command apdu ∷ shown ∷ []) old (step.Apdu apdu) (moment_at from taken) (moment_at after now)
+exchanges_at result apdu old from set sent after taken mid now shown plans is with_it command comes ok err sink =
+    writes_last old (step.Apdu apdu) (item.Command apdu ∷ []) shown from set sent after taken mid now plans
     (command_showed old apdu shown set.parts sent.parts (seen_set from set old with_it.given is) comes.sends comes.replies) with_it
     (with_command from.parts.meter after.parts.meter (due from.waiting ++ []) apdu shown (counted_with_plan plans from set sent after shown with_it comes.counted))
     refl (λ calm. calm) (λ none. absurd (cc)) (λ card gives. inr (gives, refl))
-    (told_more taken mid (trace_text (line.Command apdu)) before command told ∙ ap (λ back. Some (before ++ back)) (sym (text_of_one (item.Command apdu)))) result ok err sink
+    (command ∙ ap (append_known taken) (sym (text_of_one (item.Command apdu)))) result ok err sink
 
 -- the line of the command broke off
-pub breaks_command : (apdu before : List ℕ) (old : CardView) (from : End) (taken now : Option (List ℕ)) → IsSeenBy old (machine_of from.parts) from.parts.is_on → taken ≡ Some before → Becomes (TakesFront (trace_text (line.Command apdu))) taken now
-    → BreaksStep old before (step.Apdu apdu) (moment_at from taken) (moment_at from now)
-breaks_command apdu before old from taken now is told broken =
-    let front = told_front taken now (trace_text (line.Command apdu)) before broken told in
+pub breaks_command : (apdu : List ℕ) (old : CardView) (from : End) (taken now : Option (List ℕ)) → IsSeenBy old (machine_of from.parts) from.parts.is_on → Becomes (TakesFront (trace_text (line.Command apdu))) taken now
+    → BreaksStep old (step.Apdu apdu) (moment_at from taken) (moment_at from now)
+breaks_command apdu old from taken now is broken =
+    let front = told_front taken now (trace_text (line.Command apdu)) broken in
     let counted = idle_counted from.parts.meter in
     record {
       card = old;
@@ -301,50 +304,70 @@ breaks_command apdu before old from taken now is told broken =
       set = [];
       stands = holds_seen from.parts old is;
       broken = inl (refl, refl, refl);
-      cut_off = in_one_line (item.Command apdu) before now front;
+      cut_off = in_one_line (item.Command apdu) taken now front;
       written = front.written;
       counted = record { failures = counted.failures; cuts = counted.cuts; plans = counted.plans; latest = counted.latest; no_plan = counted.no_plan };
     }
 
 -- ---- a reset
 
--- it was done, or power was lost in it, which is shown in this line
-pub restarts_at : (result : Result (Unit {0}) StepEnd) (before : List ℕ) (old : CardView) (from set sent after : End) (taken now : Option (List ℕ)) (shown : TraceItem)
-    → PlansAreCounted → taken ≡ Some before → WithPlan from set sent after → Showed old step.Reset (shown ∷ []) shown sent.parts → IsCounted set.parts.meter sent.parts.meter [] (shown ∷ [])
-    → OnOk result (now ≡ append_known taken (item_text shown)) → OnErr result (Becomes (TakesFront (item_text shown)) taken now) → OnErr result (result ≡ Err SinkFailed)
-    → GivesShowing result (λ done. shown ∷ []) old before step.Reset (moment_at from taken) (moment_at after now)
-restarts_at result before old from set sent after taken now shown plans told with_it showed counts ok err sink =
-    writes_last old step.Reset [] shown before from set sent after taken taken now plans showed with_it (counted_with_plan plans from set sent after shown with_it counts) refl (λ calm. calm) (λ none. absurd (cc))
-    (λ card gives. (inl gives, refl)) (told ∙ ap Some (sym (append-nil before))) result ok err sink
+-- a line was not written
+abbrev pub unwritten : StepEnd → Result (Unit {0}) StepEnd
+unwritten why = Err why
 
--- the memory failed in it, and the line that says so was written
-pub restart_failed : (before : List ℕ) (old : CardView) (from set sent after : End) (taken now : Option (List ℕ)) → PlansAreCounted → taken ≡ Some before → WithPlan from set sent after → Failed old sent.parts
-    → IsCounted set.parts.meter sent.parts.meter [] (item.EepromFailed ∷ []) → now ≡ append_known taken (item_text item.EepromFailed) → EndsStep old before step.Reset (moment_at from taken) (moment_at after now)
-restart_failed before old from set sent after taken now plans told with_it failed counts ok = record {
-  card = failed.card;
-  shown = item.EepromFailed ∷ [];
-  stands = holds_back (names_fault from.waiting) sent after failed.card with_it.back failed.stands;
-  ends = failed.ends;
-  written = told_more taken now (item_text item.EepromFailed) before ok told ∙ ap (λ back. Some (before ++ back)) (sym (text_of_one item.EepromFailed));
-  counted = counted_with_plan plans from set sent after item.EepromFailed with_it counts;
-}
+module _ (old : CardView) (from set sent after : End) (taken now : Option (List ℕ)) (plans : PlansAreCounted) (with_it : WithPlan from set sent after) (seen : IsSeenBy old (machine_of from.parts) from.parts.is_on) where
+  -- it was done, or power was lost in it, and its line was written or broke off
+  restarts_at : (result : Result (Unit {0}) StepEnd) (outcome : Restarted) → TakesReset set.parts (Ok outcome) sent.parts
+      → OnOk result (now ≡ append_known taken (item_text (shown_of (Ok outcome)))) → OnErr result (Becomes (TakesFront (item_text (shown_of (Ok outcome)))) taken now) → OnErr result (result ≡ Err SinkFailed)
+      → GivesShowing result (λ done. restarted_by outcome) old step.Reset (moment_at from taken) (moment_at after now)
+  restarts_at result outcome takes ok err sink =
+      writes_last old step.Reset [] (shown_of (Ok outcome)) from set sent after taken taken now plans (reset_showed old outcome set.parts sent.parts (seen_set from set old with_it.given seen) takes) with_it
+      (counted_with_plan plans from set sent after (shown_of (Ok outcome)) with_it takes.counted) refl (λ calm. calm) (λ none. absurd (cc)) (λ card gives. (inl gives, refl)) (sym (taken_none taken)) result ok err sink
 
--- the sink failed in it
-pub restart_failed_broken : (before : List ℕ) (old : CardView) (from set sent after : End) (taken now : Option (List ℕ)) → PlansAreCounted → taken ≡ Some before → WithPlan from set sent after → Failed old sent.parts
-    → IsCounted set.parts.meter sent.parts.meter [] (item.EepromFailed ∷ []) → Becomes (TakesFront (item_text item.EepromFailed)) taken now → BreaksStep old before step.Reset (moment_at from taken) (moment_at after now)
-restart_failed_broken before old from set sent after taken now plans told with_it failed counts err =
-    let front = told_front taken now (item_text item.EepromFailed) before err told in
-    record {
-      card = failed.card;
-      pending = item.EepromFailed ∷ [];
-      front = front.front;
-      set = due from.waiting ++ [];
-      stands = holds_back (names_fault from.waiting) sent after failed.card with_it.back failed.stands;
-      broken = (inr failed.ends, refl);
-      cut_off = in_one_line item.EepromFailed before now front;
-      written = front.written;
-      counted = counted_with_plan plans from set sent after item.EepromFailed with_it counts;
-    }
+  -- the memory failed in it, and the line that says so was written
+  restart_failed : (failed : MemoryFailed) → TakesReset set.parts (Err failed) sent.parts → now ≡ append_known taken (item_text item.EepromFailed) → EndsStep old step.Reset (moment_at from taken) (moment_at after now)
+  restart_failed failed takes ok =
+      let ended_so = reset_failed_so old failed set.parts sent.parts (seen_set from set old with_it.given seen) takes in
+      record {
+        card = ended_so.card;
+        shown = item.EepromFailed ∷ [];
+        stands = holds_back (names_fault from.waiting) sent after ended_so.card with_it.back ended_so.stands;
+        ends = ended_so.ends;
+        written = ok ∙ ap (append_known taken) (sym (text_of_one item.EepromFailed));
+        counted = counted_with_plan plans from set sent after item.EepromFailed with_it takes.counted;
+      }
+
+  -- the sink failed in its line
+  restart_broken : (outcome : Result Restarted MemoryFailed) → TakesReset set.parts outcome sent.parts → Becomes (TakesFront (item_text (shown_of outcome))) taken now → BreaksStep old step.Reset (moment_at from taken) (moment_at after now)
+  restart_broken (Ok outcome) takes err = restarts_at (Err SinkFailed) outcome takes tt err refl
+  restart_broken (Err failed) takes err =
+      let ended_so = reset_failed_so old failed set.parts sent.parts (seen_set from set old with_it.given seen) takes in
+      let front = told_front taken now (item_text item.EepromFailed) err in
+      record {
+        card = ended_so.card;
+        pending = item.EepromFailed ∷ [];
+        front = front.front;
+        set = due from.waiting ++ [];
+        stands = holds_back (names_fault from.waiting) sent after ended_so.card with_it.back ended_so.stands;
+        broken = (inr ended_so.ends, refl);
+        cut_off = in_one_line item.EepromFailed taken now front;
+        written = front.written;
+        counted = counted_with_plan plans from set sent after item.EepromFailed with_it takes.counted;
+      }
+
+  -- the line was that of its outcome
+  module _ (outcome : Result Restarted MemoryFailed) (line_so : TraceLine) (is_line : line_so ≡ line_of (shown_of outcome)) (takes : TakesReset set.parts outcome sent.parts) where
+    pub restarted_at : (done : Restarted) → outcome ≡ Ok done → now ≡ append_known taken (trace_text line_so) → TakesShowing (restarted_by done) old step.Reset (moment_at from taken) (moment_at after now)
+    restarted_at done is ok =
+        restarts_at (Ok tt) done (subst (λ o. TakesReset set.parts o sent.parts) is takes) (ok ∙ ap (λ l. append_known taken (trace_text l)) (is_line ∙ ap (λ o. line_of (shown_of o)) is)) tt tt
+
+    pub failed_at : (failed : MemoryFailed) → outcome ≡ Err failed → now ≡ append_known taken (trace_text line_so) → EndsStep old step.Reset (moment_at from taken) (moment_at after now)
+    failed_at failed is ok =
+        restart_failed failed (subst (λ o. TakesReset set.parts o sent.parts) is takes) (ok ∙ ap (λ l. append_known taken (trace_text l)) (is_line ∙ ap (λ o. line_of (shown_of o)) is))
+
+    pub broken_at : (why : StepEnd) → unwritten why ≡ unwritten SinkFailed → Becomes (TakesFront (trace_text line_so)) taken now → GivesStep (Err why) old step.Reset (moment_at from taken) (moment_at after now)
+    broken_at SinkFailed sink err = restart_broken outcome takes (subst (λ l. Becomes (TakesFront (trace_text l)) taken now) is_line err)
+    broken_at ResetFailed sink err = absurd (cc)
 
 -- ---- only a reset can be the last step
 
@@ -370,25 +393,17 @@ pub still_rests : (old : CardView) (due : Bool) → RestsOn old [] due due
 still_rests (TheCard machine) due = λ nothing calm. nothing refl
 still_rests (ItsPower on) due = tt
 
-pub plans_more : (before : List ℕ) (old : CardView) (from to : End) (taken : Option (List ℕ)) (plan : Plan) → IsSeenBy old (machine_of from.parts) from.parts.is_on → taken ≡ Some before → to ≡ record from { waiting = plans_joined from.waiting plan }
-    → TakesStep old before (step.Plan plan) (moment_at from taken) (moment_at to taken)
-plans_more before old from to taken plan is told joins =
+pub plans_more : (old : CardView) (from to : End) (taken : Option (List ℕ)) (plan : Plan) → IsSeenBy old (machine_of from.parts) from.parts.is_on → to ≡ record from { waiting = plans_joined from.waiting plan }
+    → TakesStep old (step.Plan plan) (moment_at from taken) (moment_at to taken)
+plans_more old from to taken plan is joins =
     let later : End = record from { waiting = plans_joined from.waiting plan } in
-    subst (λ (e : End). TakesStep old before (step.Plan plan) (moment_at from taken) (moment_at e taken)) (sym joins) (record {
+    subst (λ (e : End). TakesStep old (step.Plan plan) (moment_at from taken) (moment_at e taken)) (sym joins) (record {
       card = old;
       shown = [];
       seen = is;
       gives = still_shows old plan;
-      written = told ∙ ap Some (sym (append-nil before));
+      written = sym (taken_none taken);
       counted = idle_counted from.parts.meter;
       waits = refl;
       rests = still_rests old from.parts.is_due;
     })
-
--- ---- what a reset came to, told another way
-
-pub resets_as : (result other : ResetOutcome) (set sent : CardParts) → result ≡ other → ((o : Machine) → machine_of set ≡ Some o → Resets result o sent) → (o : Machine) → machine_of set ≡ Some o → Resets other o sent
-resets_as result other set sent same resets = λ o at. subst (λ r. Resets r o sent) same (resets o at)
-
-pub counted_as : (result other : ResetOutcome) (from to : Meter) → result ≡ other → IsCounted from to [] (shown_of result ∷ []) → IsCounted from to [] (shown_of other ∷ [])
-counted_as result other from to same counted = subst (λ r. IsCounted from to [] (shown_of r ∷ [])) same counted

@@ -1,5 +1,5 @@
 -- A card's end of a link, and what becomes of a command that comes to it.
-use Rattle.std.specs.Prelude.{◌≡◌, ◌≤◌, Bool, true, false, if◌then◌else◌, ℕ, List, [], ◌∷◌, Option, Some, Result, Ok, Err, ⊤}
+use Rattle.std.specs.Prelude.{◌≡◌, ◌≤◌, Bool, true, false, if◌then◌else◌, ℕ, List, [], ◌∷◌, Option, Some, Result, Ok, Err, IsErr, ⊤}
 use Rattle.uicc_types.specs.Counts.{Caused, Meter, armed, names_fault, raised}
 use Rattle.uicc_types.specs.declared.answers.Answer.{Answer}
 use Rattle.uicc_types.specs.declared.plans.Plan.{Plan}
@@ -15,10 +15,11 @@ use Rattle.card_core.specs.Parts.{CardParts}
 use Rattle.run_steps.specs.Taking.{machine_of, Resets, Sends, moment, shown_of}
 use Rattle.run_steps.specs.Stepping.{Moment}
 use Rattle.run_steps.specs.Views.{IsReply}
+use Rattle.run_steps.specs.declared.steps.MemoryFailed.{MemoryFailed}
 use Rattle.run_steps.specs.declared.steps.Reply.{Reply}
 use Rattle.run_steps.specs.declared.steps.Reply.TheVariants as reply
-use Rattle.run_steps.specs.declared.steps.ResetOutcome.{ResetOutcome}
-use Rattle.run_steps.specs.declared.steps.ResetOutcome.TheVariants as outcomes
+use Rattle.run_steps.specs.declared.steps.Restarted.{Restarted}
+use Rattle.run_steps.specs.declared.steps.Restarted.TheVariants as ended
 use Rattle.run_steps.specs.Tpdus.{item_of}
 
 -- what is seen of it: the parts of the card, and the plan of faults that waits for the next command or reset
@@ -64,12 +65,12 @@ pub record TakesCommand (old : CardParts) (apdu : List ℕ) (shown : TraceItem) 
 
 -- A card was reset, with this outcome: over a store that tells its bytes it is then as a reset leaves it, and over any store its device
 -- counts what is shown, and no plan, and the card has power or lost it.
-pub record TakesReset (old : CardParts) (outcome : ResetOutcome) (new : CardParts) : Type 0 where
+pub record TakesReset (old : CardParts) (outcome : Result Restarted MemoryFailed) (new : CardParts) : Type 0 where
   pub resets : (machine : Machine) → machine_of old ≡ Some machine → Resets outcome machine new
   pub counted : IsCounted old.meter new.meter [] (shown_of outcome ∷ [])
-  pub on : outcome ≡ outcomes.Done → new.is_on ≡ true
-  pub off : outcome ≡ outcomes.Cut → new.is_on ≡ false
-  pub failed : outcome ≡ outcomes.Failed → new.meter.faults ≡ raised old.meter.faults
+  pub on : outcome ≡ Ok ended.Done → new.is_on ≡ true
+  pub off : outcome ≡ Ok ended.Cut → new.is_on ≡ false
+  pub failed : IsErr outcome → new.meter.faults ≡ raised old.meter.faults
   pub kept : old.meter.faults ≤ new.meter.faults
 
 -- A command came to the card, which took it so. The plan that waits goes on waiting.

@@ -1,6 +1,7 @@
 -- How a step is taken: from where to where, what is written and counted, and what it shows. The contracts of the functions that take steps
 -- say this; a whole run is told without it.
-use Rattle.std.specs.Prelude.{Option, option_map, ℕ, List, ◌≡◌, Bool, true, false, [], ◌∷◌, ◌++◌, Some, Result, Ok, Err}
+use Rattle.std.specs.Prelude.{Option, option_map, ℕ, List, ◌≡◌, Bool, true, false, [], ◌∷◌, Some, Result, Ok, Err}
+use Rattle.std.specs.Io.KnownBytes.{append_known}
 use Rattle.uicc_types.specs.declared.answers.Answer.{Answer}
 use Rattle.uicc_types.specs.declared.plans.Plan.{Plan}
 use Rattle.uicc_types.specs.declared.runs.Step.{Step}
@@ -15,10 +16,9 @@ use Rattle.card_core.specs.Parts.{CardParts}
 use Rattle.run_steps.specs.Runs.{ends_calm, text_of, is_calm}
 use Rattle.run_steps.specs.Stepping.{Moment, IsSeen, IsCutOff, Holds, BreaksOff}
 use Rattle.run_steps.specs.Views.{CardView, Known, StepShows, LastShows}
+use Rattle.run_steps.specs.declared.steps.MemoryFailed.{MemoryFailed}
 use Rattle.run_steps.specs.declared.steps.Reply.{Reply}
 use Rattle.run_steps.specs.declared.steps.Reply.TheVariants as reply
-use Rattle.run_steps.specs.declared.steps.ResetOutcome.{ResetOutcome}
-use Rattle.run_steps.specs.declared.steps.ResetOutcome.TheVariants as restart
 use Rattle.run_steps.specs.declared.steps.Restarted.{Restarted}
 use Rattle.run_steps.specs.declared.steps.Restarted.TheVariants as ended
 use Rattle.run_steps.specs.declared.steps.StepEnd.{StepEnd}
@@ -41,18 +41,18 @@ abbrev pub Rests : CardView → List TraceItem → Bool → Type 0
 Rests card shown is_due = Known (λ machine. ends_calm shown ≡ true → is_due ≡ false) (λ on. Unit {0}) card
 
 -- a step was taken, and all that it shows
-pub record TakesStep (old : CardView) (before : List ℕ) (step : Step) (from to : Moment) : Type 0 where
+pub record TakesStep (old : CardView) (step : Step) (from to : Moment) : Type 0 where
   pub card : CardView
   pub shown : List TraceItem
   pub seen : IsSeen card to
   pub gives : StepShows old step shown card
-  pub written : to.taken ≡ Some (before ++ text_of shown)
+  pub written : to.taken ≡ append_known from.taken (text_of shown)
   pub counted : IsCounted from.meter to.meter (armed_after from.waiting (step ∷ [])) shown
   pub waits : to.waiting ≡ waiting_after from.waiting (step ∷ [])
   pub rests : RestsOn card shown from.is_due to.is_due
 
 -- the sink failed in the last line of what a step has shown
-pub record BreaksStep (old : CardView) (before : List ℕ) (step : Step) (from to : Moment) : Type 0 where
+pub record BreaksStep (old : CardView) (step : Step) (from to : Moment) : Type 0 where
   pub card : CardView
   pub pending : List TraceItem
   pub front : List ℕ
@@ -60,33 +60,33 @@ pub record BreaksStep (old : CardView) (before : List ℕ) (step : Step) (from t
   pub stands : Holds card to.held
   pub broken : BreaksOff old step pending (armed_after from.waiting (step ∷ [])) set card
   pub cut_off : IsCutOff pending front
-  pub written : to.taken ≡ Some (before ++ front)
+  pub written : to.taken ≡ append_known from.taken front
   pub counted : IsCounted from.meter to.meter set pending
 
 -- a step was the last
-pub record EndsStep (old : CardView) (before : List ℕ) (step : Step) (from to : Moment) : Type 0 where
+pub record EndsStep (old : CardView) (step : Step) (from to : Moment) : Type 0 where
   pub card : CardView
   pub shown : List TraceItem
   pub stands : Holds card to.held
   pub ends : LastShows old step shown card
-  pub written : to.taken ≡ Some (before ++ text_of shown)
+  pub written : to.taken ≡ append_known from.taken (text_of shown)
   pub counted : IsCounted from.meter to.meter (armed_after from.waiting (step ∷ [])) shown
 
 -- what a step comes to
-abbrev pub GivesStep : Result (Unit {0}) StepEnd → CardView → List ℕ → Step → Moment → Moment → Type 0
-GivesStep (Ok done) old before step from to = TakesStep old before step from to
-GivesStep (Err SinkFailed) old before step from to = BreaksStep old before step from to
-GivesStep (Err ResetFailed) old before step from to = EndsStep old before step from to
+abbrev pub GivesStep : Result (Unit {0}) StepEnd → CardView → Step → Moment → Moment → Type 0
+GivesStep (Ok done) old step from to = TakesStep old step from to
+GivesStep (Err SinkFailed) old step from to = BreaksStep old step from to
+GivesStep (Err ResetFailed) old step from to = EndsStep old step from to
 
 -- a step was taken, and this is what it shows
-pub record TakesShowing (shown : List TraceItem) (old : CardView) (before : List ℕ) (step : Step) (from to : Moment) : Type 0 where
-  pub taken : TakesStep old before step from to
+pub record TakesShowing (shown : List TraceItem) (old : CardView) (step : Step) (from to : Moment) : Type 0 where
+  pub taken : TakesStep old step from to
   pub shows : taken.shown ≡ shown
 
 -- what a step comes to of which an outcome tells what it shows
-abbrev pub GivesShowing : {A : Type 0} → Result A StepEnd → (A → List TraceItem) → CardView → List ℕ → Step → Moment → Moment → Type 0
-GivesShowing (Ok outcome) shows old before step from to = TakesShowing (shows outcome) old before step from to
-GivesShowing (Err end) shows old before step from to = GivesStep (Err end) old before step from to
+abbrev pub GivesShowing : {A : Type 0} → Result A StepEnd → (A → List TraceItem) → CardView → Step → Moment → Moment → Type 0
+GivesShowing (Ok outcome) shows old step from to = TakesShowing (shows outcome) old step from to
+GivesShowing (Err end) shows old step from to = GivesStep (Err end) old step from to
 
 -- ---- what a step shows
 
@@ -100,10 +100,15 @@ seen reply.Off answer = item.Off
 abbrev pub exchanged : List ℕ → Answer → Reply → List TraceItem
 exchanged apdu answer reply = item.Command apdu ∷ seen reply answer ∷ []
 
--- of a reset in which the memory did not fail
+-- of a reset
+abbrev pub shown_of : Result Restarted MemoryFailed → TraceItem
+shown_of (Ok ended.Done) = item.Reset
+shown_of (Ok ended.Cut) = item.Cut
+shown_of (Err failed) = item.EepromFailed
+
+-- of one in which the memory did not fail
 abbrev pub restarted_by : Restarted → List TraceItem
-restarted_by ended.Done = item.Reset ∷ []
-restarted_by ended.Cut = item.Cut ∷ []
+restarted_by outcome = shown_of (Ok outcome) ∷ []
 
 -- ---- inside a step
 
@@ -114,14 +119,8 @@ pub record Sends (old : Machine) (apdu : List ℕ) (shown : TraceItem) (to : Car
   pub gives : StepGives old (step.Apdu apdu) (item.Command apdu ∷ shown ∷ []) machine
   pub rests : is_calm shown ≡ true → to.is_due ≡ false
 
--- what the trace shows of a reset
-abbrev pub shown_of : ResetOutcome → TraceItem
-shown_of restart.Done = item.Reset
-shown_of restart.Cut = item.Cut
-shown_of restart.Failed = item.EepromFailed
-
 -- the card was reset, or power was lost in it, or the memory failed; what it holds for good is the same
-abbrev pub Resets : ResetOutcome → Machine → CardParts → Type 0
-Resets restart.Done old to = (machine_of to ≡ Some (powered (restarted old.card))) × (to.is_due ≡ false)
-Resets restart.Cut old to = machine_of to ≡ Some (unpowered (restarted old.card))
-Resets restart.Failed old to = held_by to ≡ Some (restarted old.card).persistent
+abbrev pub Resets : Result Restarted MemoryFailed → Machine → CardParts → Type 0
+Resets (Ok ended.Done) old to = (machine_of to ≡ Some (powered (restarted old.card))) × (to.is_due ≡ false)
+Resets (Ok ended.Cut) old to = machine_of to ≡ Some (unpowered (restarted old.card))
+Resets (Err failed) old to = held_by to ≡ Some (restarted old.card).persistent

@@ -6,7 +6,7 @@ ghost use Rattle.card_core.specs.Cards.{parts_of, IsCardReady};
 ghost use Rattle.run_steps.specs.Ends.{TakesCommand, TakesReset, reply_for, with_plan_set, without_plan};
 ghost use Rattle.run_steps.specs.Taking.{seen};
 
-use crate::steps::ResetOutcome;
+use crate::steps::{MemoryFailed, Restarted};
 use applet_trait::Applet;
 use card_core::{CardFault, CardOver, ResetFault};
 use card_model::runs_are_counted;
@@ -90,7 +90,7 @@ impl<S: Store, B: Applet> CardEnd<S, B> {
     }
 
     // Has the card reset.
-    pub(crate) fn reset(&mut self) -> ResetOutcome
+    pub(crate) fn reset(&mut self) -> Result<Restarted, MemoryFailed>
         ensures takes { TakesReset self.old.parts result self.new.parts }
         ensures waits { self.new.waiting ≡ self.old.waiting }
     {
@@ -110,7 +110,7 @@ fn joined(waiting: &Plan, plan: &Plan) -> Plan
 }
 
 // Has the card reset.
-fn reset<S: Store, B: Applet>(card: &mut CardOver<S, B>) -> ResetOutcome
+fn reset<S: Store, B: Applet>(card: &mut CardOver<S, B>) -> Result<Restarted, MemoryFailed>
     requires ready { IsCardReady (parts_of S.Store B.Applet card.old) }
     ensures takes { TakesReset (parts_of S.Store B.Applet card.old) result (parts_of S.Store B.Applet card.new) }
     ensures ready { IsCardReady (parts_of S.Store B.Applet card.new) }
@@ -118,9 +118,9 @@ fn reset<S: Store, B: Applet>(card: &mut CardOver<S, B>) -> ResetOutcome
     // This call is a law, and does nothing.
     runs_are_counted();
     match card.reset() {
-        Ok(()) => ResetOutcome::Done,
-        Err(ResetFault::PowerLost) => ResetOutcome::Cut,
-        Err(ResetFault::Failed) => ResetOutcome::Failed,
+        Ok(()) => Ok(Restarted::Done),
+        Err(ResetFault::PowerLost) => Ok(Restarted::Cut),
+        Err(ResetFault::Failed) => Err(MemoryFailed),
     }
 }
 

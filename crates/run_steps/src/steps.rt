@@ -1,5 +1,5 @@
 //! What is done to the card, and what the trace shows of it.
-ghost use Rattle.std.specs.Prelude.{◌≡◌, ◌≢◌, ◌≤◌, List, ℕ, Some, Err, OnOk, OnErr, is_some, length};
+ghost use Rattle.std.specs.Prelude.{◌≡◌, ◌≢◌, ◌≤◌, Err, OnOk, OnErr, is_some, length};
 ghost use Rattle.std.specs.Io.KnownBytes.{append_known};
 ghost use Rattle.uicc_types.specs.Counts.{CountsFailure, raised};
 ghost use Rattle.uicc_types.specs.Told.{Becomes};
@@ -9,8 +9,8 @@ ghost use Rattle.byte_streams.specs.Streams.{TakesFront};
 ghost use Rattle.script_form.specs.Traces.{trace_text};
 ghost use Rattle.run_steps.specs.Ends.{moment_at};
 ghost use Rattle.run_steps.specs.Moves.{IsShort, step_of};
-ghost use Rattle.run_steps.specs.Runs.{item_text};
-ghost use Rattle.run_steps.specs.Taking.{GivesShowing, GivesStep, exchanged, restarted_by, seen};
+ghost use Rattle.run_steps.specs.Runs.{item_text, line_of};
+ghost use Rattle.run_steps.specs.Taking.{GivesShowing, GivesStep, exchanged, restarted_by, seen, shown_of};
 ghost use Rattle.run_steps.specs.Stepping.{IsSeen};
 ghost use Rattle.run_steps.specs.Tallies.{Tallies, tally};
 ghost use Rattle.run_steps.specs.Views.{CardView};
@@ -54,16 +54,9 @@ pub enum Restarted {
     Cut,
 }
 
-/// What came of a reset.
+/// The memory failed in a reset.
 #[derive(Clone, Copy, Debug, PartialEq, Eq)]
-pub enum ResetOutcome {
-    /// The card was reset.
-    Done,
-    /// Power was lost in it.
-    Cut,
-    /// The memory failed in it.
-    Failed,
-}
+pub struct MemoryFailed;
 
 /// Takes a step, and writes what it shows.
 pub fn take_step<S: Store, B: Applet, W: Sink>(
@@ -75,9 +68,8 @@ pub fn take_step<S: Store, B: Applet, W: Sink>(
 ) -> Result<(), StepEnd>
     requires short { IsShort step }
     // By what is known of the card: the card itself where its memory tells its bytes, and its power over any memory.
-    ensures gives { (old : CardView) (before : List ℕ) → IsSeen old (moment_at end.old (W.taken trace.old))
-        → W.taken trace.old ≡ Some before
-        → GivesStep result old before (step_of step.entry) (moment_at end.old (W.taken trace.old))
+    ensures gives { (old : CardView) → IsSeen old (moment_at end.old (W.taken trace.old))
+        → GivesStep result old (step_of step.entry) (moment_at end.old (W.taken trace.old))
         (moment_at end.new (W.taken trace.new)) }
     ensures failed { result ≡ Err StepEnd.ResetFailed
         → end.new.parts.meter.faults ≡ raised end.old.parts.meter.faults }
@@ -113,9 +105,8 @@ pub fn exchange<S: Store, B: Applet, W: Sink>(
 ) -> Result<Reply, StepEnd>
     requires short { length apdu.now ≤ LONGEST_COMMAND }
     // By what is known of the card: the card itself where its memory tells its bytes, and its power over any memory.
-    ensures gives { (old : CardView) (before : List ℕ) → IsSeen old (moment_at end.old (W.taken trace.old))
-        → W.taken trace.old ≡ Some before
-        → GivesShowing result (exchanged apdu.now answer.new) old before (step.Apdu apdu.now)
+    ensures gives { (old : CardView) → IsSeen old (moment_at end.old (W.taken trace.old))
+        → GivesShowing result (exchanged apdu.now answer.new) old (step.Apdu apdu.now)
         (moment_at end.old (W.taken trace.old)) (moment_at end.new (W.taken trace.new)) }
     ensures ends { result ≢ Err StepEnd.ResetFailed }
     ensures tallies { Tallies (tally W.Sink end.old trace.old) (tally W.Sink end.new trace.new)
@@ -167,9 +158,8 @@ pub fn restart<S: Store, B: Applet, W: Sink>(
     trace: &mut W,
 ) -> Result<Restarted, StepEnd>
     // By what is known of the card: the card itself where its memory tells its bytes, and its power over any memory.
-    ensures gives { (old : CardView) (before : List ℕ) → IsSeen old (moment_at end.old (W.taken trace.old))
-        → W.taken trace.old ≡ Some before
-        → GivesShowing result restarted_by old before step.Reset (moment_at end.old (W.taken trace.old))
+    ensures gives { (old : CardView) → IsSeen old (moment_at end.old (W.taken trace.old))
+        → GivesShowing result restarted_by old step.Reset (moment_at end.old (W.taken trace.old))
         (moment_at end.new (W.taken trace.new)) }
     ensures failed { result ≡ Err StepEnd.ResetFailed
         → end.new.parts.meter.faults ≡ raised end.old.parts.meter.faults }
@@ -181,19 +171,23 @@ pub fn restart<S: Store, B: Applet, W: Sink>(
     let is_set = end.set_plan();
     let outcome = end.reset();
     end.clear_plan(is_set);
+    match write_step(trace, &reset_line(outcome)) {
+        Ok(()) => match outcome {
+            Ok(restarted) => Ok(restarted),
+            Err(MemoryFailed) => Err(StepEnd::ResetFailed),
+        },
+        Err(why) => Err(why),
+    }
+}
+
+/// The line that shows what came of a reset.
+fn reset_line(outcome: Result<Restarted, MemoryFailed>) -> TraceLine
+    ensures { result ≡ line_of (shown_of outcome) }
+{
     match outcome {
-        ResetOutcome::Done => match write_step(trace, &TraceLine::Reset) {
-            Ok(()) => Ok(Restarted::Done),
-            Err(why) => Err(why),
-        },
-        ResetOutcome::Cut => match write_step(trace, &TraceLine::Cut) {
-            Ok(()) => Ok(Restarted::Cut),
-            Err(why) => Err(why),
-        },
-        ResetOutcome::Failed => match write_step(trace, &TraceLine::EepromFailed) {
-            Ok(()) => Err(StepEnd::ResetFailed),
-            Err(_) => Err(StepEnd::SinkFailed),
-        },
+        Ok(Restarted::Done) => TraceLine::Reset,
+        Ok(Restarted::Cut) => TraceLine::Cut,
+        Err(MemoryFailed) => TraceLine::EepromFailed,
     }
 }
 

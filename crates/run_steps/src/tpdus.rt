@@ -1,5 +1,5 @@
 //! A TPDU in a run.
-ghost use Rattle.std.specs.Prelude.{◌≡◌, ◌≤◌, List, ℕ, Some, Option, IsErr, length};
+ghost use Rattle.std.specs.Prelude.{◌≡◌, ◌≤◌, Option, IsErr, length};
 ghost use Rattle.uicc_types.specs.declared.answers.Answer.{Answer as AnyAnswer};
 ghost use Rattle.uicc_types.specs.declared.byte_lists.TheConstants.{LONGEST_COMMAND};
 ghost use Rattle.t0_link.specs.Exchanging.{IsPassed};
@@ -62,9 +62,8 @@ pub fn take_tpdu<S: Store, B: Applet, W: Sink>(
 ) -> Result<(), Failed>
     requires { length tpdu.now ≤ LONGEST_COMMAND }
     // By what is known of the card: the card itself where its memory tells its bytes, and its power over any memory.
-    ensures gives { (old : CardView) (before : List ℕ) → IsSeen old (moment_at end.old (W.taken trace.old))
-        → W.taken trace.old ≡ Some before
-        → GivesTpdu result old before tpdu.now (link_answer link.old tpdu.now) link.old link.new
+    ensures gives { (old : CardView) → IsSeen old (moment_at end.old (W.taken trace.old))
+        → GivesTpdu result old tpdu.now (link_answer link.old tpdu.now) link.old link.new
         (moment_at end.old (W.taken trace.old)) (moment_at end.new (W.taken trace.new)) }
     ensures stays { (IsPassed (link_answer link.old tpdu.now) → ⊥) → end.new ≡ end.old }
     ensures tallies { Tallies (tally W.Sink end.old trace.old) (tally W.Sink end.new trace.new) (IsErr result) }

@@ -1,12 +1,10 @@
--- Which lines of a script were read behind `start`, and why no more of them were, whatever the card makes of them.
-use Rattle.std.specs.List.{AllPass}
-use Rattle.std.specs.Prelude.{◌≡◌, ℕ, Bool, false, List, [], ◌∷◌, ◌++◌, Option, Some, None, Result, Ok, Err}
+-- Why no more lines of a script are read behind `start`, whatever the card makes of them.
+use Rattle.std.specs.Prelude.{◌≡◌, ℕ, Bool, false, List, [], ◌∷◌, Option, Some, None, Result, Ok, Err}
 use Rattle.byte_streams.specs.Lines.{LineList}
 use Rattle.byte_streams.specs.Reading.{IsTextCutShort, IsReadOut}
 use Rattle.script_form.specs.Forms.{IsLine}
 use Rattle.script_form.specs.declared.lines.ScriptLine.{ScriptLine}
-use Rattle.script_reader.specs.Reading.{Finds, Follows, GoesOn}
-use Rattle.script_reader.specs.Said.{AreRead}
+use Rattle.script_reader.specs.Reading.{Finds, GoesOn}
 use Rattle.script_reader.specs.declared.behind.PlayEnd.{PlayEnd}
 use Rattle.script_reader.specs.declared.behind.PlayEnd.TheVariants.{Finished, BadLine, ReadFailed, SinkFailed, ResetFailed}
 use Rattle.script_reader.specs.declared.faults.ScriptFault.{ScriptFault}
@@ -37,32 +35,3 @@ end_for fault.ReadFailed = ReadFailed
 abbrev pub GivesLine : (ScriptLine → Bool) → List ℕ → LineList → ScriptReader → Option (List ℕ) → ScriptLine → Result (Unit {0}) PlayEnd → Type 0
 GivesLine may text found script left line (Ok done) = Finds text found script left line
 GivesLine may text found script left line (Err end) = StopsReading may text found left end
-
--- the lines up to `start` were read, and behind it lines that may stand there
-pub record IsReading (may : ScriptLine → Bool) (opening : List ScriptLine) (text : List ℕ) (script : ScriptReader) (left : Option (List ℕ)) : Type 0 where
-  pub found : LineList
-  pub played : List ScriptLine
-  pub read : AreRead found (opening ++ played)
-  pub in_place : AllPass may played
-  pub follows : Follows text found script left
-
--- no more of them were, for this cause
-pub record EndsReading (may : ScriptLine → Bool) (opening : List ScriptLine) (text : List ℕ) (left : Option (List ℕ)) (end : PlayEnd) : Type 0 where
-  pub found : LineList
-  pub played : List ScriptLine
-  pub read : AreRead found (opening ++ played)
-  pub in_place : AllPass may played
-  pub cause : StopsReading may text found left end
-
--- What the reading comes to. Where the sink failed, or the memory in a reset, nothing is said of it.
-abbrev pub LinesReadTo : (ScriptLine → Bool) → List ScriptLine → List ℕ → Option (List ℕ) → PlayEnd → Type 0
-LinesReadTo may opening text left Finished = EndsReading may opening text left Finished
-LinesReadTo may opening text left (BadLine number) = EndsReading may opening text left (BadLine number)
-LinesReadTo may opening text left ReadFailed = EndsReading may opening text left ReadFailed
-LinesReadTo may opening text left SinkFailed = Unit {0}
-LinesReadTo may opening text left ResetFailed = Unit {0}
-
--- what a line comes to: it was read, or the reading ends
-abbrev pub GivesRead : (ScriptLine → Bool) → List ScriptLine → List ℕ → ScriptReader → Option (List ℕ) → Result (Unit {0}) PlayEnd → Type 0
-GivesRead may opening text script left (Ok done) = IsReading may opening text script left
-GivesRead may opening text script left (Err end) = LinesReadTo may opening text left end

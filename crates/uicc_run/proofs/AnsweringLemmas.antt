@@ -132,13 +132,13 @@ pub ends_without_words : (seen : Seen) (given : Given) (words : List (List ℕ))
 ends_without_words seen given words none closed = unbegun given words seen (usage_status seen closed) (λ asks sound. absurd (none asks))
 
 module _ (seen : Seen) (before : Option (List ℕ)) where
-  pub no_device : (given : Given) (told : Bool) (words : List (List ℕ)) → before ≡ Some given.before → seen.left ≡ Some given.text → Closes NoMemory before seen.taken seen.status → HasTrace given told words seen
+  pub no_device : (given : Given) (told : Bool) (words : List (List ℕ)) → before ≡ given.before → seen.left ≡ Some given.text → Closes NoMemory before seen.taken seen.status → HasTrace given told words seen
   no_device given told words begun unread closes =
       unbegun_trace given told words seen before NoMemory
       (record { usage = λ is. absurd (cc); read_failed = λ is. absurd (omega arith); eeprom_failed = λ is. absurd (omega arith) })
       (record { written = begun; counted = still given.meter; begun_at_most = inl unread; memory_kept = λ tells. inl refl }) closes
 
-  pub has_no_device : (given : Given) (words : List (List ℕ)) → IsClosed NoMemory seen → HasSunk NoMemory seen → before ≡ Some given.before → seen.left ≡ Some given.text
+  pub has_no_device : (given : Given) (words : List (List ℕ)) → IsClosed NoMemory seen → HasSunk NoMemory seen → before ≡ given.before → seen.left ≡ Some given.text
       → Closes NoMemory before seen.taken seen.status → HasRun given words seen
   has_no_device given words closed sunk begun unread closes =
       unbegun_run given words seen (wanting_status seen closed) (λ asks sound. wants_so seen closed sunk sound) (no_device given true words begun unread closes)
@@ -157,13 +157,13 @@ module _ (seen : Seen) (before : Option (List ℕ)) where
     complete = λ card sound fixed. inr (inl (wants_so seen closed sunk sound));
   }
 
-  pub no_words : (given : Given) (told : Bool) (words : List (List ℕ)) → (AskForRun words → ⊥) → before ≡ Some given.before → Closes Usage before seen.taken seen.status → HasTrace given told words seen
+  pub no_words : (given : Given) (told : Bool) (words : List (List ℕ)) → (AskForRun words → ⊥) → before ≡ given.before → Closes Usage before seen.taken seen.status → HasTrace given told words seen
   no_words given told words none begun closes =
       unbegun_trace given told words seen before Usage
       (record { usage = λ is. none; read_failed = λ is. absurd (omega arith); eeprom_failed = λ is. absurd (omega arith) })
       (quiet_still given before (result_ok given.memory) given.meter given.boxes begun refl) closes
 
-  pub has_no_words : (given : Given) (words : List (List ℕ)) → (AskForRun words → ⊥) → IsClosed Usage seen → before ≡ Some given.before
+  pub has_no_words : (given : Given) (words : List (List ℕ)) → (AskForRun words → ⊥) → IsClosed Usage seen → before ≡ given.before
       → Closes Usage before seen.taken seen.status → HasRun given words seen
   has_no_words given words none closed begun closes = unbegun_run given words seen (usage_status seen closed) (λ asks sound. absurd (none asks)) (no_words given true words none begun closes)
 

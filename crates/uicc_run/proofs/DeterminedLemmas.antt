@@ -1,5 +1,6 @@
 -- What is told of the same lines twice, from the same card, is one where nothing fails.
 use Rattle.std.proofs.Common.{◌≡◌, ℕ, false, map, reverse, List, [], ◌∷◌, ◌++◌, Option, Some, None, Result, Ok, Err, refl, sym, ap, ◌∙◌, subst, inl, append-nil}
+use Rattle.std.specs.Io.KnownBytes.{append_known}
 use Rattle.std.proofs.lemmas.List.{reverse-reverse}
 use Rattle.list_laws.proofs.ContainsLemmas.{front_of, back_of}
 use Rattle.uicc_types.specs.declared.answers.Answer.{Answer}
@@ -155,7 +156,7 @@ traces_are_one law given first first' left left' end end' now now' run other sam
     let told : AreTold (deeds run.done.played) None (TheCard first) other.done.account other.done.kept other.done.card =
     subst (λ (machine : Machine). AreTold (deeds run.done.played) None (TheCard machine) other.done.account other.done.kept other.done.card) (sym one_first) lines in
     let same = one_account law (deeds run.done.played) None first run.done.card other.done.card run.done.account other.done.account run.done.kept other.done.kept run.done.are_told told calm calm' in (
-      run.written ∙ ap (λ (shown : List TraceItem). Some (given.before ++ text_of shown)) same.0 ∙ sym other.written,
+      run.written ∙ ap (λ (shown : List TraceItem). append_known given.before (text_of shown)) same.0 ∙ sym other.written,
       one_held first run.done.account.steps run.done.account.own run.done.account.own other.done.account.own run.done.card other.done.card now now' run.done.run same.1 run.leaves other.leaves,
     )
 
@@ -179,7 +180,7 @@ served_are_one law given section first first' left left' end end' at at' opened 
     let same = law first run.card other.card (phone_lines run.played) run.log other.log
     (record { run = run.run; lines_are = log_told run.log run.played run.told; rests = run.rests; failures = calm.0; cuts = calm.1 })
     (record { run = theirs; lines_are = log_told other.log other.played other.told ∙ ap phone_lines (sym same_lines); rests = other.rests; failures = calm'.0; cuts = calm'.1 }) in (
-      run.written ∙ ap (λ (entries : List TraceEntry). Some (given.before ++ entries_text entries)) same.shows ∙ sym other.written,
+      run.written ∙ ap (λ (entries : List TraceEntry). append_known given.before (entries_text entries)) same.shows ∙ sym other.written,
       one_left first run.log run.card other.card (shown run.log) (shown other.log) at at' run.run same.card run.stands other.stands,
     )
 

@@ -4,7 +4,7 @@ use Rattle.uicc_types.specs.Counts.{CountsFailure, Meter, Rose}
 use Rattle.script_reader.specs.declared.behind.PlayEnd.{PlayEnd}
 use Rattle.script_reader.specs.declared.behind.PlayEnd.TheVariants as play
 use Rattle.long_runs.specs.declared.counts.Counts.{Counts}
-use Rattle.phone_runs.specs.declared.counting.MemoryFailed.{MemoryFailed}
+use Rattle.run_steps.specs.declared.steps.MemoryFailed.{MemoryFailed}
 use Rattle.uicc_run.specs.Making.{EndsFor, EndsLoad, ending_for_load}
 use Rattle.uicc_run.specs.Endings.{status_for}
 use Rattle.uicc_run.specs.Worlds.{World}

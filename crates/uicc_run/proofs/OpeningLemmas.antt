@@ -225,7 +225,7 @@ stands_ready given section None mark mark_then told told_then is_described memor
     }
 
 pub made_so : {Failed Lost : Type 0} → (given : Given) (is_told : Bool) (script : ScriptReader) (left taken : Option (List ℕ)) (card : Option Persistent) (mark mark_then : ℕ) (told told_then : Option (List ℕ)) (old new : Meter) (boxes : List (Option AppletState))
-    → AtStart given.boxes given.first given.text script left card → taken ≡ Some given.before → (is_told ≡ true → option_map (stands_for mark) told ≡ Some given.memory) → old ≡ given.meter → boxes ≡ given.boxes
+    → AtStart given.boxes given.first given.text script left card → taken ≡ given.before → (is_told ≡ true → option_map (stands_for mark) told ≡ Some given.memory) → old ≡ given.meter → boxes ≡ given.boxes
     → makes card mark told told_then → mark_then ≡ mark → Caused old new Failed Lost → (Failed → ⊥) → (Lost → ⊥) → IsMade given is_told script left taken (option_map (stands_for mark_then) told_then) new boxes
 made_so given is_told script left taken card mark mark_then told told_then old new boxes at taken_is memory meter boxes_are makes_so same caused no_failure no_loss = record {
   card = card;
@@ -304,7 +304,7 @@ starts_seen given false script left taken mark told meter boxes parts join made 
 
 -- it was not
 abbrev pub not_opened : (IsKnown : List ScriptLine → Option Persistent → Type 0) (given : Given) (is_told : Bool) (script : ScriptReader) (left taken : Option (List ℕ)) (card held_then : Option Persistent) (meter_then : Meter) (boxes_then : List (Option AppletState))
-    → (at : AtStart given.boxes given.first given.text script left card) → taken ≡ Some given.before → IsUnplanned given.meter meter_then → (is_told ≡ true → IsKnown at.section card)
+    → (at : AtStart given.boxes given.first given.text script left card) → taken ≡ given.before → IsUnplanned given.meter meter_then → (is_told ≡ true → IsKnown at.section card)
     → IsNotOpened given is_told left (record { held = held_then; taken = taken; meter = meter_then; boxes = boxes_then }) IsKnown
 not_opened IsKnown given is_told script left taken card held_then meter_then boxes_then at is counted known = record {
   found = at.given;
@@ -418,7 +418,7 @@ describes_none cast text script left (Some state) at = let none = none_stays cas
 
 -- the memory could not be formatted
 pub not_made : {Failed Lost : Type 0} → (given : Given) (is_told : Bool) (script : ScriptReader) (left taken : Option (List ℕ)) (card held_then : Option Persistent) (meter meter_then : Meter) (boxes_then : List (Option AppletState)) → AtStart given.boxes given.first given.text script left card
-    → taken ≡ Some given.before → is_some card ≡ true → meter ≡ given.meter → Caused meter meter_then Failed Lost
+    → taken ≡ given.before → is_some card ≡ true → meter ≡ given.meter → Caused meter meter_then Failed Lost
     → IsNotOpened given is_told left (record { held = held_then; taken = taken; meter = meter_then; boxes = boxes_then }) (λ section described. is_some described ≡ true)
 not_made given is_told script left taken card held_then meter meter_then boxes_then at is some was caused =
     not_opened (λ section described. is_some described ≡ true) given is_told script left taken card held_then meter_then boxes_then at is (subst (λ m. IsUnplanned m meter_then) was (caused_kept meter meter_then caused)) (λ told. some)
@@ -496,5 +496,5 @@ pub unplanned_still : (meter : Meter) → IsUnplanned meter meter
 unplanned_still meter = record { faults_kept = omega arith; cuts_kept = omega arith; plans_kept = refl; latest_kept = refl; no_plan = λ none. none }
 
 -- so it is with a run to which nothing was done
-pub quiet_still : (given : Given) (taken : Option (List ℕ)) (held : Option Persistent) (meter : Meter) (boxes : List (Option AppletState)) → taken ≡ Some given.before → meter ≡ given.meter → IsQuiet given (record { held = held; taken = taken; meter = meter; boxes = boxes })
+pub quiet_still : (given : Given) (taken : Option (List ℕ)) (held : Option Persistent) (meter : Meter) (boxes : List (Option AppletState)) → taken ≡ given.before → meter ≡ given.meter → IsQuiet given (record { held = held; taken = taken; meter = meter; boxes = boxes })
 quiet_still given taken held meter boxes is same = record { written = is; counted = subst (λ m. IsUnplanned m meter) same (unplanned_still meter) }

@@ -1,5 +1,6 @@
 -- From one line after `start` to the next, and why the run ends there, by what is known of the card.
 use Rattle.std.proofs.Common.{◌≡◌, ℕ, Bool, true, false, List, [], ◌∷◌, ◌++◌, Option, Some, None, refl, sym, ap, ◌∙◌, append_assoc, subst}
+use Rattle.std.specs.Io.KnownBytes.{append_known}
 use Rattle.std.proofs.lemmas.List.Elements.{All-push}
 use Rattle.uicc_types.specs.declared.answers.Answer.{Answer}
 use Rattle.uicc_types.specs.declared.plans.Plan.{Plan}
@@ -25,7 +26,7 @@ use Rattle.card_model.specs.Laws.{CountsJoin, PlansAreSetInOrder}
 use Rattle.card_model.specs.Runs.{plan_given, armed_after, waiting_after}
 use Rattle.card_model.specs.States.{Machine}
 use Rattle.run_steps.proofs.GoesOnLemmas.{text_of-append}
-use Rattle.run_steps.proofs.SteppingLemmas.{no_last_command, no_last_plan}
+use Rattle.run_steps.proofs.SteppingLemmas.{no_last_command, no_last_plan, told_more}
 use Rattle.run_steps.proofs.ViewLemmas.{rests_then, run_failed, run_shown}
 use Rattle.run_steps.specs.Runs.{text_of}
 use Rattle.run_steps.specs.Taking.{BreaksStep, EndsStep, Rests, RestsOn, TakesStep}
@@ -55,8 +56,8 @@ read_more given found section played card bytes line so_far only may = record {
 }
 
 -- the text behind what was taken
-behind : (before : List ℕ) (shown more : List TraceItem) → (before ++ text_of shown) ++ text_of more ≡ before ++ text_of (shown ++ more)
-behind before shown more = append_assoc before (text_of shown) (text_of more) ∙ ap (λ rest. before ++ rest) (sym (text_of-append shown more))
+behind : (before was now : Option (List ℕ)) (shown more : List TraceItem) → now ≡ append_known was (text_of more) → was ≡ append_known before (text_of shown) → now ≡ append_known before (text_of (shown ++ more))
+behind before was now shown more then told = told_more before was now (text_of shown) (text_of more) then told ∙ ap (append_known before) (sym (text_of-append shown more))
 
 -- the plans of steps behind those of others, and the one that waits behind them
 plans_then : PlansAreSetInOrder → (steps more : List Step) (waiting : Plan) → waiting ≡ waiting_after NONE steps → plan_given steps ++ armed_after waiting more ≡ plan_given (steps ++ more)
@@ -86,18 +87,18 @@ carried_out given first found section played described account kept card lines o
 -- ---- what a line comes to
 
 -- it was carried out
-pub record Does (deed : Deed) (kept : Option Answer) (old : CardView) (before : List ℕ) (from to : Moment) (after : Option Answer) : Type 0 where
+pub record Does (deed : Deed) (kept : Option Answer) (old : CardView) (from to : Moment) (after : Option Answer) : Type 0 where
   pub card : CardView
   pub account : Account
   pub seen : IsSeen card to
   pub is_told : IsTold deed kept old account after card
-  pub written : to.taken ≡ Some (before ++ text_of account.shown)
+  pub written : to.taken ≡ append_known from.taken (text_of account.shown)
   pub counted : IsCounted from.meter to.meter (armed_after from.waiting account.steps) account.own
   pub waits : to.waiting ≡ waiting_after from.waiting account.steps
   pub rests : RestsOn card account.own from.is_due to.is_due
 
 -- the sink failed in it
-pub record Breaks (deed : Deed) (kept : Option Answer) (old : CardView) (before : List ℕ) (from to : Moment) (after : Option Answer) : Type 0 where
+pub record Breaks (deed : Deed) (kept : Option Answer) (old : CardView) (from to : Moment) (after : Option Answer) : Type 0 where
   pub card : CardView
   pub own : List TraceItem
   pub pending : List TraceItem
@@ -106,12 +107,12 @@ pub record Breaks (deed : Deed) (kept : Option Answer) (old : CardView) (before 
   pub broken : BreaksOffDeed deed kept old own pending from.waiting set after card
   pub cut_off : IsCutOff pending front
   pub stands : Holds card to.held
-  pub written : to.taken ≡ Some (before ++ front)
+  pub written : to.taken ≡ append_known from.taken front
   pub counted : IsCounted from.meter to.meter set own
 
 -- a step
-module _ (step : Step) (kept after : Option Answer) (old : CardView) (before : List ℕ) (from to : Moment) where
-  pub step_does : after ≡ kept_behind step kept → TakesStep old before step from to → Does (Takes step) kept old before from to after
+module _ (step : Step) (kept after : Option Answer) (old : CardView) (from to : Moment) where
+  pub step_does : after ≡ kept_behind step kept → TakesStep old step from to → Does (Takes step) kept old from to after
   step_does keeps taken = record {
     card = taken.card;
     account = record { steps = step ∷ []; own = taken.shown; shown = taken.shown };
@@ -123,7 +124,7 @@ module _ (step : Step) (kept after : Option Answer) (old : CardView) (before : L
     rests = taken.rests;
   }
 
-  pub step_breaks : BreaksStep old before step from to → Breaks (Takes step) kept old before from to after
+  pub step_breaks : BreaksStep old step from to → Breaks (Takes step) kept old from to after
   step_breaks broken = record {
     card = broken.card;
     own = broken.pending;
@@ -138,8 +139,8 @@ module _ (step : Step) (kept after : Option Answer) (old : CardView) (before : L
   }
 
 -- a TPDU
-module _ (tpdu : List ℕ) (kept after : Option Answer) (old : CardView) (before : List ℕ) (from to : Moment) where
-  pub tpdu_does : TakesTpdu old before tpdu (link_answer kept tpdu) after from to → Does (Transfers tpdu) kept old before from to after
+module _ (tpdu : List ℕ) (kept after : Option Answer) (old : CardView) (from to : Moment) where
+  pub tpdu_does : TakesTpdu old tpdu (link_answer kept tpdu) after from to → Does (Transfers tpdu) kept old from to after
   tpdu_does taken = record {
     card = taken.card;
     account = record { steps = steps_of (link_answer kept tpdu); own = taken.own; shown = shown_for tpdu taken.reply };
@@ -151,7 +152,7 @@ module _ (tpdu : List ℕ) (kept after : Option Answer) (old : CardView) (before
     rests = taken.rests;
   }
 
-  pub tpdu_breaks : BreaksTpdu old before tpdu (link_answer kept tpdu) kept after from to → Breaks (Transfers tpdu) kept old before from to after
+  pub tpdu_breaks : BreaksTpdu old tpdu (link_answer kept tpdu) kept after from to → Breaks (Transfers tpdu) kept old from to after
   tpdu_breaks broken = record {
     card = broken.card;
     own = broken.own;
@@ -201,12 +202,12 @@ module _ (given : Given) (first : CardView) (script next : ScriptReader) (left l
 
   -- a line that was carried out
   pub plays_further : (kept after : Option Answer) (from to : Moment) (deed : Deed) → CountsJoin → PlansAreSetInOrder → may_follow line ≡ true → deeds_of line ≡ deed ∷ []
-      → ((old : CardView) (before : List ℕ) → IsSeen old from → from.taken ≡ Some before → Does deed kept old before from to after)
+      → ((old : CardView) → IsSeen old from → Does deed kept old from to after)
       → IsPlaying given first script left kept from → IsPlaying given first next left_then after to
   plays_further kept after from to deed join order may one does playing =
       let done = playing.done in
       let finds = search_so done.found playing.follows in
-      let more = does done.card (given.before ++ text_of done.account.shown) playing.seen playing.written in
+      let more = does done.card playing.seen in
       let is_told : IsTold deed done.kept done.card more.account after more.card = subst (λ (k : Option Answer). IsTold deed k done.card more.account after more.card) (sym playing.keeps) more.is_told in
       record {
         done = carried_out given first (done.found ++ Some finds.bytes ∷ []) done.section (done.played ++ line ∷ []) done.described (joined done.account more.account) after more.card
@@ -217,7 +218,7 @@ module _ (given : Given) (first : CardView) (script next : ScriptReader) (left l
         follows = finds.follows;
         keeps = refl;
         seen = more.seen;
-        written = more.written ∙ ap Some (behind given.before done.account.shown more.account.shown);
+        written = behind given.before from.taken to.taken done.account.shown more.account.shown more.written playing.written;
         counted = subst (λ l. IsCounted given.meter to.meter l (done.account.own ++ more.account.own)) (plans_then order done.account.steps more.account.steps from.waiting playing.waits)
             (join given.meter from.meter to.meter (plan_given done.account.steps) (armed_after from.waiting more.account.steps) done.account.own more.account.own playing.counted more.counted);
         waits = more.waits ∙ waiting_then order done.account.steps more.account.steps from.waiting playing.waits;
@@ -232,11 +233,11 @@ module _ (given : Given) (first : CardView) (script next : ScriptReader) (left l
 
   -- the sink failed in it
   pub breaks_in : (kept after : Option Answer) (from to : Moment) (deed : Deed) → CountsJoin → deeds_of line ≡ deed ∷ []
-      → ((old : CardView) (before : List ℕ) → IsSeen old from → from.taken ≡ Some before → Breaks deed kept old before from to after)
+      → ((old : CardView) → IsSeen old from → Breaks deed kept old from to after)
       → IsPlaying given first script left kept from → BreaksSo given first (left_at to)
   breaks_in kept after from to deed join one breaks playing =
       let done = playing.done in
-      let broken = breaks done.card (given.before ++ text_of done.account.shown) playing.seen playing.written in
+      let broken = breaks done.card playing.seen in
       let off : BreaksOffDeed deed done.kept done.card broken.own broken.pending (waiting_after NONE done.account.steps) broken.set after broken.card =
       subst (λ (k : Option Answer). BreaksOffDeed deed k done.card broken.own broken.pending (waiting_after NONE done.account.steps) broken.set after broken.card) (sym playing.keeps)
       (subst (λ (w : Plan). BreaksOffDeed deed kept done.card broken.own broken.pending w broken.set after broken.card) playing.waits broken.broken) in
@@ -253,20 +254,20 @@ module _ (given : Given) (first : CardView) (script next : ScriptReader) (left l
         shows = shows_broken (deeds done.played) done.kept after first done.card done.account done.are_told deed broken.own broken.pending _ broken.set broken.card off;
         cut_off = broken.cut_off;
         stands = broken.stands;
-        written = broken.written;
+        written = told_more given.before from.taken to.taken (text_of done.account.shown) broken.front broken.written playing.written;
         counted = join given.meter from.meter to.meter (plan_given done.account.steps) broken.set done.account.own broken.own playing.counted broken.counted;
       }
 
   -- a step was the last, which only a reset can be
   pub fails_in : (kept : Option Answer) (from to : Moment) (last : Step) → CountsJoin → PlansAreSetInOrder → deeds_of line ≡ Takes last ∷ []
-      → ((old : CardView) (before : List ℕ) → IsSeen old from → from.taken ≡ Some before → EndsStep old before last from to) → IsPlaying given first script left kept from → FailsSo given first (left_at to)
+      → ((old : CardView) → IsSeen old from → EndsStep old last from to) → IsPlaying given first script left kept from → FailsSo given first (left_at to)
   fails_in kept from to (step.Apdu apdu) join order one fails playing =
-      let failed = fails playing.done.card (given.before ++ text_of playing.done.account.shown) playing.seen playing.written in absurd (no_last_command playing.done.card failed.card apdu failed.shown failed.ends)
+      let failed = fails playing.done.card playing.seen in absurd (no_last_command playing.done.card failed.card apdu failed.shown failed.ends)
   fails_in kept from to (step.Plan plan) join order one fails playing =
-      let failed = fails playing.done.card (given.before ++ text_of playing.done.account.shown) playing.seen playing.written in absurd (no_last_plan playing.done.card failed.card plan failed.shown failed.ends)
+      let failed = fails playing.done.card playing.seen in absurd (no_last_plan playing.done.card failed.card plan failed.shown failed.ends)
   fails_in kept from to step.Reset join order one fails playing =
       let done = playing.done in
-      let failed = fails done.card (given.before ++ text_of done.account.shown) playing.seen playing.written in
+      let failed = fails done.card playing.seen in
       record {
         at = reaches kept from (Takes step.Reset) one playing;
         card = failed.card;
@@ -277,7 +278,7 @@ module _ (given : Given) (first : CardView) (script next : ScriptReader) (left l
         counted_in_it = subst (λ (w : Plan). IsCounted from.meter to.meter (armed_after w (step.Reset ∷ [])) failed.shown) playing.waits failed.counted;
         of_card = run_failed done.account.steps step.Reset first done.card failed.card done.account.own failed.shown (goes_on (deeds done.played) None done.kept first done.card done.account done.are_told) failed.ends;
         stands = failed.stands;
-        written = failed.written ∙ ap Some (behind given.before done.account.shown failed.shown);
+        written = behind given.before from.taken to.taken done.account.shown failed.shown failed.written playing.written;
         counted = subst (λ l. IsCounted given.meter to.meter l (done.account.own ++ failed.shown)) (plans_then order done.account.steps (step.Reset ∷ []) from.waiting playing.waits)
             (join given.meter from.meter to.meter (plan_given done.account.steps) (armed_after from.waiting (step.Reset ∷ [])) done.account.own failed.shown playing.counted failed.counted);
       }

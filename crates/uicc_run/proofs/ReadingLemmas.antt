@@ -1,74 +1,48 @@
--- Which lines a run read, and why no more of them, whatever its memory and its sink tell.
-use Rattle.std.proofs.Common.{◌≡◌, ℕ, Bool, true, List, [], ◌∷◌, Option, Ok, sym, append_assoc, subst}
+-- Which lines a run read, and why no more of them: what follows of what it comes to, whatever its memory holds or tells.
+use Rattle.std.proofs.Common.{◌≡◌, ℕ, Bool, true, List, [], ◌∷◌, ◌++◌, Option, sym, append_assoc, subst}
 use Rattle.std.specs.List.{AllPass}
 use Rattle.std.proofs.lemmas.List.Elements.{All-nil}
-use Rattle.byte_streams.specs.Lines.{lines_within}
-use Rattle.byte_streams.specs.Reading.{pending}
+use Rattle.byte_streams.specs.Lines.{LineList, lines}
 use Rattle.script_form.specs.declared.lines.ScriptLine.{ScriptLine}
 use Rattle.script_form.specs.declared.lines.ScriptLine.TheVariants.{Start}
-use Rattle.script_reader.proofs.BehindLemmas.{reads_first}
-use Rattle.script_reader.specs.Behind.{EndsReading, IsReading, LinesReadTo, StopsReading}
+use Rattle.script_reader.specs.Behind.{StopsReading}
 use Rattle.script_reader.specs.Said.{AreRead}
 use Rattle.script_reader.specs.declared.behind.PlayEnd.{PlayEnd}
-use Rattle.script_reader.specs.declared.behind.PlayEnd.TheVariants.{Finished, BadLine, ReadFailed, SinkFailed, ResetFailed}
-use Rattle.script_reader.specs.declared.reader.ScriptReader.{ScriptReader}
 use Rattle.card_state.specs.Persistent.{Persistent}
-use Rattle.card_core.specs.declared.opening_faults.OpenFault.{OpenFault}
-use Rattle.card_core.specs.declared.opening_faults.OpenFault.TheVariants as fault
-use Rattle.section_lines.specs.Script.{with_lines}
-use Rattle.section_lines.specs.SectionReading.{AtStart}
 use Rattle.phone_runs.specs.Lines.{PhoneEnds}
 use Rattle.run_steps.specs.Views.{CardView}
-use Rattle.uicc_run.specs.Making.{EndsBehind, HasStarted, ReadsBehind, ReadsTo, ending_for}
-use Rattle.uicc_run.specs.Playing.{EndsSo, Given, Leaves, ServedComesTo, beginning}
+use Rattle.uicc_run.specs.Headline.{IsNotOpened}
+use Rattle.uicc_run.specs.Playing.{AreReadInPlace, EndsSo, Given, Leaves, StopsPlaying, ServedComesTo, beginning}
 use Rattle.uicc_run.specs.Steps.{may_stand}
 use Rattle.uicc_run.proofs.ServingLemmas.{opening}
 
-has_started : (given : Given) (script : ScriptReader) (left : Option (List ℕ)) (card : Option Persistent) → AtStart given.boxes given.first given.text script left card → HasStarted given
-has_started given script left card at = record {
-  found = at.given;
-  more = lines_within script.reader.room (pending script.reader at.follows.reads.rest);
-  section = at.section;
-  card = card;
-  parted = at.follows.reads.lines_are;
-  lines_are = record { read = at.read; described = at.described; in_place = All-nil (λ line. may_stand given.is_served line ≡ true) };
+-- `start` was read
+pub record HasStarted (given : Given) : Type 0 where
+  pub found : LineList
+  pub more : LineList
+  pub section : List ScriptLine
+  pub card : Option Persistent
+  pub parted : lines given.text ≡ found ++ more
+  pub lines_are : AreReadInPlace given found section [] card
+
+-- no more lines were read after it, for this cause
+pub record EndsBehind (given : Given) (left : Option (List ℕ)) (end : PlayEnd) : Type 0 where
+  pub found : LineList
+  pub section : List ScriptLine
+  pub played : List ScriptLine
+  pub card : Option Persistent
+  pub lines_are : AreReadInPlace given found section played card
+  pub cause : StopsPlaying given found left end
+
+pub has_started : (IsKnown : List ScriptLine → Option Persistent → Type 0) (given : Given) (told : Bool) (left : Option (List ℕ)) (leaves : Leaves) → IsNotOpened given told left leaves IsKnown → HasStarted given
+has_started IsKnown given told left leaves is = record {
+  found = is.found;
+  more = is.more;
+  section = is.section;
+  card = is.card;
+  parted = is.begins;
+  lines_are = record { read = is.read; described = is.described; in_place = All-nil (λ line. may_stand given.is_served line ≡ true) };
 }
-
--- the card was not opened
-pub reads_refused : (given : Given) (script : ScriptReader) (left : Option (List ℕ)) (card : Option Persistent) (why : OpenFault) → AtStart given.boxes given.first given.text script left card → ReadsTo given left (ending_for why)
-reads_refused given script left card (fault.NotACard place) at = has_started given script left card at
-reads_refused given script left card (fault.NoBox shelf) at = has_started given script left card at
-reads_refused given script left card fault.Failed at = tt
-reads_refused given script left card fault.PowerLost at = tt
-reads_refused given script left card fault.Memory at = tt
-
--- it was, and no line was read after `start`
-pub reads_start : (given : Given) (script : ScriptReader) (left : Option (List ℕ)) (card : Option Persistent) (served : Bool) → (at : AtStart given.boxes given.first given.text script left card) → IsReading (may_stand served) (opening at.section) given.text script left
-reads_start given script left card served at = reads_first (may_stand served) (opening at.section) given.text at.given script left at.read at.follows
-
-ends_behind : (given : Given) (left : Option (List ℕ)) (section : List ScriptLine) (card : Option Persistent) (served : Bool) (end : PlayEnd) → given.is_served ≡ served → with_lines given.boxes given.first section ≡ Ok card
-    → EndsReading (may_stand served) (opening section) given.text left end → EndsBehind given left end
-ends_behind given left section card served end is described ends_so =
-    let ends = subst (λ s. EndsReading (may_stand s) (opening section) given.text left end) (sym is) ends_so in
-    record {
-      found = ends.found;
-      section = section;
-      played = ends.played;
-      card = card;
-      lines_are = record { read = subst (AreRead ends.found) (append_assoc section (Start ∷ []) ends.played) ends.read; described = described; in_place = ends.in_place };
-      cause = ends.cause;
-    }
-
--- no more lines are read
-pub reads_behind : (given : Given) (left : Option (List ℕ)) (section : List ScriptLine) (card : Option Persistent) (served : Bool) (end : PlayEnd) → given.is_served ≡ served → with_lines given.boxes given.first section ≡ Ok card
-    → LinesReadTo (may_stand served) (opening section) given.text left end → ReadsBehind given left end
-reads_behind given left section card served Finished is described ends = ends_behind given left section card served Finished is described ends
-reads_behind given left section card served (BadLine number) is described ends = ends_behind given left section card served (BadLine number) is described ends
-reads_behind given left section card served ReadFailed is described ends = ends_behind given left section card served ReadFailed is described ends
-reads_behind given left section card served SinkFailed is described ends = tt
-reads_behind given left section card served ResetFailed is described ends = tt
-
--- ---- of a run that is told
 
 -- where the lines went to the card
 abbrev pub reads_played : (given : Given) (first : CardView) (left : Option (List ℕ)) (end : PlayEnd) (leaves : Leaves) → EndsSo given first left end leaves → EndsBehind given left end

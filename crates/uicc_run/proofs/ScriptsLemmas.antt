@@ -27,11 +27,11 @@ use Rattle.section_lines.specs.Script.{with_lines}
 use Rattle.run_steps.specs.Views.{CardView, ItsPower, TheCard}
 use Rattle.phone_runs.specs.Lines.{PhoneEnds}
 use Rattle.bip_runs.proofs.IsLineLemmas.{Only, only_first, only_last, only_says, says_itself}
-use Rattle.uicc_run.specs.Making.{EndsBehind, HasStarted, IsUnshown, ReadsTo}
+use Rattle.uicc_run.specs.Making.{IsUnshown}
 use Rattle.uicc_run.specs.Endings.{status_for}
 use Rattle.uicc_run.specs.Headline.{Closes, Comes, IsNoCard, IsNotOpened, LacksBox, is_known, last_text}
-use Rattle.uicc_run.specs.Playing.{AreReadInPlace, EndsSo, Given, IsOpened, Leaves, first_machine, ComesTo, ServedComesTo, beginning}
-use Rattle.uicc_run.proofs.ReadingLemmas.{reads_played, reads_served}
+use Rattle.uicc_run.specs.Playing.{AreReadInPlace, EndsSo, Given, IsFirst, IsOpened, Leaves, first_machine, ComesTo, ServedComesTo, beginning}
+use Rattle.uicc_run.proofs.ReadingLemmas.{EndsBehind, HasStarted, has_started, reads_played, reads_served}
 use Rattle.uicc_run.proofs.TellsNextLemmas.{tells_it, tells_same}
 use Rattle.uicc_run.proofs.ServingLemmas.{opening}
 use Rattle.uicc_run.specs.Steps.{may_stand}
@@ -243,180 +243,22 @@ finished given status left ends is =
       };
     }
 
--- ---- what a run comes to by its lines, whatever its memory
+-- ---- where the card was not opened
 
--- it ended behind them; or there was no memory to begin with, or a card that could not be opened at `start`
-abbrev pub LineVerdict : Given → ℕ → Option (List ℕ) → Option (List ℕ) → Type 0
-LineVerdict given status left taken = (status ≡ 5) ⊎ ((Finishes given status × (left ≡ Some [])) ⊎ (Stopped given status left taken ⊎ ((status ≡ 7) × HasStarted given)))
-
-line_verdict_of : (given : Given) (left before taken : Option (List ℕ)) (ending : Ending) (status : ℕ) → status ≡ status_for ending → taken ≡ append_known before (last_text ending) → ReadsTo given left ending
-    → (ending ≡ Usage → ⊥) → (status_for ending ≡ 3 → ⊥) → (status_for ending ≡ 4 → ⊥) → (status_for ending ≡ 6 → ⊥) → LineVerdict given status left taken
-line_verdict_of given left before taken Usage status is told reads used three four six = absurd (used refl)
-line_verdict_of given left before taken NoMemory status is told reads used three four six = inl is
-line_verdict_of given left before taken (Section (script.BadLine number)) status is told reads used three four six = inr (inr (inl (stopped_before given status number before taken left reads is told)))
-line_verdict_of given left before taken (Section (script.NoRoom number)) status is told reads used three four six = inr (inr (inl (stopped_full given status number before taken left reads is told)))
-line_verdict_of given left before taken (Section script.ReadFailed) status is told reads used three four six = absurd (three refl)
-line_verdict_of given left before taken FormatFailed status is told reads used three four six = absurd (six refl)
-line_verdict_of given left before taken EepromFailed status is told reads used three four six = absurd (six refl)
-line_verdict_of given left before taken (NotACard at) status is told reads used three four six = inr (inr (inr (is, reads)))
-line_verdict_of given left before taken (NoApplet shelf) status is told reads used three four six = inr (inr (inr (is, reads)))
-line_verdict_of given left before taken (Played play.Finished) status is told reads used three four six = inr (inl (finished given status left reads is, reads.cause.told))
-line_verdict_of given left before taken (Played (play.BadLine number)) status is told reads used three four six = inr (inr (inl (stopped_behind given status number before taken left reads is told)))
-line_verdict_of given left before taken (Played play.ReadFailed) status is told reads used three four six = absurd (three refl)
-line_verdict_of given left before taken (Played play.SinkFailed) status is told reads used three four six = absurd (four refl)
-line_verdict_of given left before taken (Played play.ResetFailed) status is told reads used three four six = absurd (six refl)
-line_verdict_of given left before taken (Counted lines counts) status is told reads used three four six = absurd reads
-line_verdict_of given left before taken LoadFailed status is told reads used three four six = absurd reads
-
--- the run of a program, but for one with another status
-pub line_verdict : (given : Given) (left before taken : Option (List ℕ)) (ending : Ending) (status : ℕ) → Closes ending before taken status → ReadsTo given left ending
-    → (status ≡ 1 → ⊥) → (status ≡ 3 → ⊥) → (status ≡ 4 → ⊥) → (status ≡ 6 → ⊥) → LineVerdict given status left taken
-line_verdict given left before taken ending status closes reads one three four six =
-    elim closes [
-      | inl whole ↦ line_verdict_of given left before taken ending status whole.0 whole.1 reads (λ same. one (whole.0 ∙ ap status_for same)) (λ is. three (whole.0 ∙ is)) (λ is. four (whole.0 ∙ is)) (λ is. six (whole.0 ∙ is))
-      | inr broken ↦ absurd (four broken.0)
-    ]
-
--- a good script is carried out to its end
-pub good_ends : (given : Given) (status : ℕ) (left taken : Option (List ℕ)) → LineVerdict given status left taken → IsGoodScript given → (status ≡ 0) ⊎ ((status ≡ 5) ⊎ (status ≡ 7))
-good_ends given status left taken (inl lacks) good = inr (inl lacks)
-good_ends given status left taken (inr (inl finishes)) good = inl finishes.0.zero
-good_ends given status left taken (inr (inr (inl stopped))) good =
-    absurd (whole_no_stop (rules_of given) Only IsLine only_first says_itself stopped.found stopped.next (Before given.first) stopped.to stopped.why good.card stopped.walk stopped.stops
-    (subst (λ l. Walks (rules_of given) IsLine (Before given.first) l (Behind good.card)) stopped.parted (walks_whole (rules_of given) IsLine (lines given.text) good.section good.played given.first good.card good.good.said good.good.described good.good.in_place)))
-good_ends given status left taken (inr (inr (inr refused))) good = inr (inr refused.0)
-
--- at a line at which it has to stop it does, if the card can be opened
-stops_by : (given : Given) (status : ℕ) (left taken : Option (List ℕ)) (found next : LineList) (to : Stage) (why : Bool) → Walks (rules_of given) IsLine (Before given.first) found to → Stops (rules_of given) to next why → lines given.text ≡ found ++ next
-    → LineVerdict given status left taken → ((status ≡ stop_status why) × TellsNext found taken) ⊎ ((status ≡ 5) ⊎ ((status ≡ 7) × HasStarted given))
-stops_by given status left taken found next to why walk stops parted (inl lacks) = inr (inl lacks)
-stops_by given status left taken found next to why walk stops parted (inr (inl finishes)) =
-    absurd (whole_no_stop (rules_of given) IsLine Only only_last only_says found next (Before given.first) to why finishes.0.card walk stops (subst (λ l. Walks (rules_of given) Only (Before given.first) l (Behind finishes.0.card)) parted finishes.0.walk))
-stops_by given status left taken found next to why walk stops parted (inr (inr (inl stopped))) =
-    let same = one_stop (rules_of given) Only IsLine only_first only_says says_itself stopped.found found stopped.next next (Before given.first) stopped.to to stopped.why why stopped.walk stopped.stops walk stops (sym stopped.parted ∙ parted) in
-    inl (stopped.is ∙ ap stop_status same.cause, tells_same stopped.found found taken same.place stopped.tells)
-stops_by given status left taken found next to why walk stops parted (inr (inr (inr refused))) = inr (inr refused)
-
--- a run that comes to `start` has met no such line
-passed_over : (given : Given) (found next : LineList) (card : Option Persistent) (why : Bool) → Walks (rules_of given) IsLine (Before given.first) found (Before card) → Stops (rules_of given) (Before card) next why → lines given.text ≡ found ++ next → HasStarted given → ⊥
-passed_over given found next card why walk stops parted started =
-    passes_stop (rules_of given) Only IsLine only_first only_says started.found started.more found next (Before given.first) why started.card card (walks_read given started.found started.section [] started.card started.lines_are) walk stops (sym started.parted ∙ parted)
-
-stops_before : (given : Given) (status : ℕ) (left taken : Option (List ℕ)) (found next : LineList) (section : List ScriptLine) (card : Option Persistent) (why : Bool) → Say found section → with_lines given.boxes given.first section ≡ Ok card → Stops (rules_of given) (Before card) next why
-    → lines given.text ≡ found ++ next → LineVerdict given status left taken → ((status ≡ stop_status why) × TellsNext found taken) ⊎ (status ≡ 5)
-stops_before given status left taken found next section card why said described stops parted verdict =
-    let walk = walks_section (rules_of given) IsLine found section given.first card said described in
-    elim (stops_by given status left taken found next (Before card) why walk stops parted verdict) [
-      | inl here ↦ inl here
-      | inr (inl lacks) ↦ inr lacks
-      | inr (inr refused) ↦ absurd (passed_over given found next card why walk stops parted refused.1)
-    ]
-
-stops_behind : (given : Given) (status : ℕ) (left taken : Option (List ℕ)) (found : LineList) → StopsBehind given found → LineVerdict given status left taken → ((status ≡ 2) × TellsNext found taken) ⊎ ((status ≡ 5) ⊎ ((status ≡ 7) × HasStarted given))
-stops_behind given status left taken found behind verdict =
-    stops_by given status left taken found behind.next (Behind behind.card) false (walks_whole (rules_of given) IsLine found behind.section behind.played given.first behind.card behind.good.said behind.good.described behind.good.in_place) behind.is behind.parted verdict
-
-pub bad_stops : (given : Given) (status : ℕ) (left taken : Option (List ℕ)) (found : LineList) → IsFirstBad given found → LineVerdict given status left taken → ((status ≡ 2) × TellsNext found taken) ⊎ ((status ≡ 5) ⊎ ((status ≡ 7) × StopsBehind given found))
-bad_stops given status left taken found (inl before) verdict =
-    elim (stops_before given status left taken found before.next before.section before.card false before.said before.described before.is before.parted verdict) [
-      | inl here ↦ inl here
-      | inr lacks ↦ inr (inl lacks)
-    ]
-bad_stops given status left taken found (inr behind) verdict =
-    elim (stops_behind given status left taken found behind verdict) [
-      | inl here ↦ inl here
-      | inr (inl lacks) ↦ inr (inl lacks)
-      | inr (inr refused) ↦ inr (inr (refused.0, behind))
-    ]
-
-pub full_stops : (given : Given) (status : ℕ) (left taken : Option (List ℕ)) (found : LineList) → IsFirstTooMuch given found → LineVerdict given status left taken → ((status ≡ 8) × TellsNext found taken) ⊎ (status ≡ 5)
-full_stops given status left taken found before verdict = stops_before given status left taken found before.next before.section before.card true before.said before.described before.is before.parted verdict
-
--- ---- what a status says of the script
-
-pub zero_is_good : (given : Given) (status : ℕ) (left taken : Option (List ℕ)) → LineVerdict given status left taken → status ≡ 0 → IsGoodScript given
-zero_is_good given status left taken (inl lacks) is = absurd (omega arith)
-zero_is_good given status left taken (inr (inl finishes)) is = finishes.0.good
-zero_is_good given status left taken (inr (inr (inl stopped))) is = absurd (no_zero stopped.why (sym is ∙ stopped.is))
-zero_is_good given status left taken (inr (inr (inr refused))) is = let seven = refused.0 in absurd (omega arith)
-
-stop_at : (given : Given) (why wanted : Bool) (found : LineList) → why ≡ wanted → IsStop given why found → IsStop given wanted found
-stop_at given why wanted found same place = subst (λ w. IsStop given w found) same place
-
-pub two_is_bad : (given : Given) (status : ℕ) (left taken : Option (List ℕ)) → LineVerdict given status left taken → status ≡ 2 → StopsAndTells (IsFirstBad given) given.text left taken
-two_is_bad given status left taken (inl lacks) is = absurd (omega arith)
-two_is_bad given status left taken (inr (inl finishes)) is = let zero = finishes.0.zero in absurd (omega arith)
-two_is_bad given status left taken (inr (inr (inl stopped))) is = record {
-  found = stopped.found;
-  is = stop_at given stopped.why false stopped.found (why_two stopped.why (sym is ∙ stopped.is)) stopped.place;
-  tells = stopped.tells;
-  reach = stopped.reach;
-}
-two_is_bad given status left taken (inr (inr (inr refused))) is = let seven = refused.0 in absurd (omega arith)
-
-pub eight_is_full : (given : Given) (status : ℕ) (left taken : Option (List ℕ)) → LineVerdict given status left taken → status ≡ 8 → StopsAndTells (IsFirstTooMuch given) given.text left taken
-eight_is_full given status left taken (inl lacks) is = absurd (omega arith)
-eight_is_full given status left taken (inr (inl finishes)) is = let zero = finishes.0.zero in absurd (omega arith)
-eight_is_full given status left taken (inr (inr (inl stopped))) is = record {
-  found = stopped.found;
-  is = stop_at given stopped.why true stopped.found (why_eight stopped.why (sym is ∙ stopped.is)) stopped.place;
-  tells = stopped.tells;
-  reach = stopped.reach;
-}
-eight_is_full given status left taken (inr (inr (inr refused))) is = let seven = refused.0 in absurd (omega arith)
-
--- nothing of the script is left
-pub zero_reads_out : (given : Given) (status : ℕ) (left taken : Option (List ℕ)) → LineVerdict given status left taken → status ≡ 0 → left ≡ Some []
-zero_reads_out given status left taken (inl lacks) is = absurd (omega arith)
-zero_reads_out given status left taken (inr (inl finishes)) is = finishes.1
-zero_reads_out given status left taken (inr (inr (inl stopped))) is = absurd (no_zero stopped.why (sym is ∙ stopped.is))
-zero_reads_out given status left taken (inr (inr (inr refused))) is = let seven = refused.0 in absurd (omega arith)
-
-no_seven : (why : Bool) → 7 ≡ stop_status why → ⊥
-no_seven false is = cc
-no_seven true is = cc
-
--- `start` was read
-pub seven_starts : (given : Given) (status : ℕ) (left taken : Option (List ℕ)) → LineVerdict given status left taken → status ≡ 7 → (card : Option Persistent) × ReachesStart given card
-seven_starts given status left taken (inl lacks) is = absurd (omega arith)
-seven_starts given status left taken (inr (inl finishes)) is = let zero = finishes.0.zero in absurd (omega arith)
-seven_starts given status left taken (inr (inr (inl stopped))) is = absurd (no_seven stopped.why (sym is ∙ stopped.is))
-seven_starts given status left taken (inr (inr (inr refused))) is =
-    let started = refused.1 in (
-      started.card,
-      record {
-        found = started.found;
-        more = started.more;
-        section = started.section;
-        parted = started.parted;
-        said = Say-from_read started.found (started.section ++ Start ∷ []) started.lines_are.read;
-        described = started.lines_are.described;
-      },
-    )
-
--- ---- where the memory tells its bytes
-
--- its card could not be opened
-pub record Refused (given : Given) (status : ℕ) (taken : Option (List ℕ)) : Type 0 where
-  pub seven : status ≡ 7
+-- its memory, which tells its bytes, holds none that can be
+pub record Refused (given : Given) (taken : Option (List ℕ)) : Type 0 where
   pub reaches : ReachesStart given None
   pub why : Refusal
   pub cannot : CannotOpen given why
   pub tells : TellsWhy given why taken
 
--- a run that went beyond `start` had a card to open
-abbrev pub Verdict : Given → ℕ → Option (List ℕ) → Option (List ℕ) → Type 0
-Verdict given status left taken =
-    (status ≡ 5) ⊎ (((finishes : Finishes given status) × OpensAt given (Behind finishes.card)) ⊎ (((stopped : Stopped given status left taken) × OpensAt given stopped.to) ⊎ Refused given status taken))
-
 -- the last line says why
-tells_why : (given : Given) (before taken : Option (List ℕ)) (why : Refusal) → before ≡ Some given.before → taken ≡ append_known before (trace_text (refusal_line why) ++ []) → TellsWhy given why taken
+tells_why : (given : Given) (before taken : Option (List ℕ)) (why : Refusal) → before ≡ given.before → taken ≡ append_known before (trace_text (refusal_line why) ++ []) → TellsWhy given why taken
 tells_why given before taken why was told =
-    told ∙ ap (λ b. append_known b (trace_text (refusal_line why) ++ [])) was ∙ ap (λ t. Some (given.before ++ t)) (append-nil (trace_text (refusal_line why)))
+    told ∙ ap (λ b. append_known b (trace_text (refusal_line why) ++ [])) was ∙ ap (append_known given.before) (append-nil (trace_text (refusal_line why)))
 
-refused_so : (IsKnown : List ScriptLine → Option Persistent → Type 0) (given : Given) (status : ℕ) (left taken : Option (List ℕ)) (leaves : Leaves) (why : Refusal) → status ≡ 7 → (refused : IsNotOpened given true left leaves IsKnown) → refused.card ≡ None → CannotOpen given why → taken ≡ append_known leaves.taken (trace_text (refusal_line why) ++ []) → Refused given status taken
-refused_so IsKnown given status left taken leaves why is refused none cannot told = record {
-  seven = is;
+refused_so : (IsKnown : List ScriptLine → Option Persistent → Type 0) (given : Given) (known : Bool) (left taken : Option (List ℕ)) (leaves : Leaves) (why : Refusal) → (refused : IsNotOpened given known left leaves IsKnown) → refused.card ≡ None → CannotOpen given why → taken ≡ append_known leaves.taken (trace_text (refusal_line why) ++ []) → Refused given taken
+refused_so IsKnown given known left taken leaves why refused none cannot told = record {
   reaches = record {
     found = refused.found;
     more = refused.more;
@@ -430,14 +272,14 @@ refused_so IsKnown given status left taken leaves why is refused none cannot tol
   tells = tells_why given leaves.taken taken why refused.quiet.written told;
 }
 
-describes_none : (IsKnown : List ScriptLine → Option Persistent → Type 0) (given : Given) (left : Option (List ℕ)) (leaves : Leaves) (refused : IsNotOpened given true left leaves IsKnown) → given.first ≡ None → refused.card ≡ None
-describes_none IsKnown given left leaves refused none =
+describes_none : (IsKnown : List ScriptLine → Option Persistent → Type 0) (given : Given) (known : Bool) (left : Option (List ℕ)) (leaves : Leaves) (refused : IsNotOpened given known left leaves IsKnown) → given.first ≡ None → refused.card ≡ None
+describes_none IsKnown given known left leaves refused none =
     is_none refused.card (none_stays given.boxes refused.section refused.card (ap (λ f. with_lines given.boxes f refused.section) (sym none) ∙ refused.described))
 
-no_card_so : (given : Given) (status at : ℕ) (left taken : Option (List ℕ)) (leaves : Leaves) → status ≡ 7 → IsNotOpened given true left leaves (λ section card. IsNoCard given at leaves) → taken ≡ append_known leaves.taken (last_text (NotACard at)) → Refused given status taken
-no_card_so given status at left taken leaves is refused told =
-    let none = refused.known refl in
-    refused_so (λ section card. IsNoCard given at leaves) given status left taken leaves (NoCardAt at) is refused (describes_none (λ section card. IsNoCard given at leaves) given left leaves refused none.no_section) none.first_failed told
+no_card_so : (given : Given) (known : Bool) (at : ℕ) (left taken : Option (List ℕ)) (leaves : Leaves) → IsNotOpened given known left leaves (λ section card. IsNoCard given at leaves) → taken ≡ append_known leaves.taken (last_text (NotACard at)) → known ≡ true → Refused given taken
+no_card_so given known at left taken leaves refused told tells =
+    let none = refused.known tells in
+    refused_so (λ section card. IsNoCard given at leaves) given known left taken leaves (NoCardAt at) refused (describes_none (λ section card. IsNoCard given at leaves) given known left leaves refused none.no_section) none.first_failed told
 
 -- a card that is described lacks no box
 lacks_none : (cast : List (Option AppletState)) (first : Option Persistent) (memory : Result Persistent ℕ) (section : List ScriptLine) (start : Persistent) (shelf : ℕ) → ((IfSome first (AreOfTheirBoxes cast) → ⊥) → ⊥)
@@ -446,84 +288,207 @@ lacks_none cast None memory section start shelf boxed opened missing = refl
 lacks_none cast (Some bare) memory section start shelf boxed opened missing =
     absurd (boxed (λ all. missing.lacks (All-contains (HasBox (with_all_shelves cast)) start.rows missing.row (have_boxes cast start.rows (rows_have_boxes cast section bare start all opened)) missing.there)))
 
-no_box_so : (given : Given) (status shelf : ℕ) (left taken : Option (List ℕ)) (leaves : Leaves) → ((IsBoxed given → ⊥) → ⊥) → status ≡ 7 → IsNotOpened given true left leaves (λ section card. LacksBox given shelf section leaves)
-    → taken ≡ append_known leaves.taken (last_text (NoApplet shelf)) → Refused given status taken
-no_box_so given status shelf left taken leaves boxed is refused told =
-    let lacks = refused.known refl in
+no_box_so : (given : Given) (known : Bool) (shelf : ℕ) (left taken : Option (List ℕ)) (leaves : Leaves) → ((IsBoxed given → ⊥) → ⊥) → IsNotOpened given known left leaves (λ section card. LacksBox given shelf section leaves)
+    → taken ≡ append_known leaves.taken (last_text (NoApplet shelf)) → known ≡ true → Refused given taken
+no_box_so given known shelf left taken leaves boxed refused told tells =
+    let lacks = refused.known tells in
     let held = lacks.holds in
-    let none = describes_none (λ section card. LacksBox given shelf section leaves) given left leaves refused (lacks_none given.boxes given.first given.memory refused.section held.start shelf boxed held.opened lacks.first_missing) in
-    refused_so (λ section card. LacksBox given shelf section leaves) given status left taken leaves (NoBoxOn shelf) is refused none (record {
+    let none = describes_none (λ section card. LacksBox given shelf section leaves) given known left leaves refused (lacks_none given.boxes given.first given.memory refused.section held.start shelf boxed held.opened lacks.first_missing) in
+    refused_so (λ section card. LacksBox given shelf section leaves) given known left taken leaves (NoBoxOn shelf) refused none (record {
       start = held.start;
       is = memory_holds given.boxes given.first given.memory refused.section held.start (refused.described ∙ ap Ok none) held.opened;
       first_missing = lacks.first_missing;
     }) told
 
--- the lines that were read behind `start`, be they for the card or for a handset, and the card that was opened
-record EndsInLines (given : Given) (left : Option (List ℕ)) (end : PlayEnd) (leaves : Leaves) : Type 0 where
-  ends : EndsBehind given left end
-  opens : OpensAt given (Behind ends.card)
+-- ---- where it was
 
-ends_played : (given : Given) (left : Option (List ℕ)) (end : PlayEnd) (leaves : Leaves) (first : Machine) → EndsSo given (TheCard first) left end leaves → EndsInLines given left end leaves
-ends_played given left end leaves first ends =
-    let done = ends.done in
-    let card = done.opened in
-    record {
-      ends = reads_played given (TheCard first) left end leaves ends;
-      opens = was_to_open given done.section card.start done.described done.lines.described card.opened (subst (λ (m : Machine). IsGood m.card) card.machine_is card.good);
-    }
+-- the lines that were read behind `start`, be they for the card or for a handset; and if the card is known, that it was there to be opened
+abbrev EndsInLines : Given → Bool → Option (List ℕ) → PlayEnd → Type 0
+EndsInLines given known left end = (ends : EndsBehind given left end) × (known ≡ true → OpensAt given (Behind ends.card))
 
-ends_served : (given : Given) (left : Option (List ℕ)) (end : PlayEnd) (leaves : Leaves) (first : Machine) → given.is_served ≡ true → (served : ServedComesTo given (TheCard first) left end leaves)
-    → PhoneEnds given.text (opening served.section) (beginning given (TheCard first)) left end served.at → EndsInLines given left end leaves
-ends_served given left end leaves first is served ends =
-    let card = served.opened in
-    record {
-      ends = reads_served given (TheCard first) left end leaves is served ends;
-      opens = was_to_open given served.section card.start served.card served.described card.opened (subst (λ (m : Machine). IsGood m.card) card.machine_is card.good);
-    }
+known_opens : (given : Given) (section : List ScriptLine) (described : Option Persistent) (first : CardView) → with_lines given.boxes given.first section ≡ Ok described → IsFirst given section first → is_known first ≡ true → OpensAt given (Behind described)
+known_opens given section described (TheCard machine) is opened known =
+    was_to_open given section opened.start described is opened.opened (subst (λ (m : Machine). IsGood m.card) opened.machine_is opened.good)
+known_opens given section described (ItsPower on) is opened known = absurd (cc)
 
-behind_end : (given : Given) (left : Option (List ℕ)) (leaves : Leaves) (first : CardView) → is_known first ≡ true → ComesTo given first left play.Finished leaves → EndsInLines given left play.Finished leaves
-behind_end given left leaves (TheCard machine) known (inl card) = ends_played given left play.Finished leaves machine card.1
-behind_end given left leaves (TheCard machine) known (inr served) = ends_served given left play.Finished leaves machine served.0 served.1 served.1.comes
-behind_end given left leaves (ItsPower on) known comes = absurd (cc)
+ends_played : (given : Given) (known : Bool) (left : Option (List ℕ)) (end : PlayEnd) (leaves : Leaves) (first : CardView) → is_known first ≡ known → EndsSo given first left end leaves → EndsInLines given known left end
+ends_played given known left end leaves first is ends =
+    (reads_played given first left end leaves ends, λ tells. known_opens given ends.done.section ends.done.described first ends.done.lines.described ends.done.opened (is ∙ tells))
 
-behind_bad : (given : Given) (left : Option (List ℕ)) (number : ℕ) (leaves : Leaves) (first : CardView) → is_known first ≡ true → ComesTo given first left (play.BadLine number) leaves → EndsInLines given left (play.BadLine number) leaves
-behind_bad given left number leaves (TheCard machine) known (inl card) = ends_played given left (play.BadLine number) leaves machine card.1
-behind_bad given left number leaves (TheCard machine) known (inr served) = ends_served given left (play.BadLine number) leaves machine served.0 served.1 served.1.comes
-behind_bad given left number leaves (ItsPower on) known comes = absurd (cc)
+ends_served : (given : Given) (known : Bool) (left : Option (List ℕ)) (end : PlayEnd) (leaves : Leaves) (first : CardView) → is_known first ≡ known → given.is_served ≡ true → (served : ServedComesTo given first left end leaves)
+    → PhoneEnds given.text (opening served.section) (beginning given first) left end served.at → EndsInLines given known left end
+ends_served given known left end leaves first is to_handset served ends =
+    (reads_served given first left end leaves to_handset served ends, λ tells. known_opens given served.section served.card first served.described served.opened (is ∙ tells))
 
-finished_so : (given : Given) (status : ℕ) (left : Option (List ℕ)) (leaves : Leaves) → EndsInLines given left play.Finished leaves → status ≡ 0 → (finishes : Finishes given status) × OpensAt given (Behind finishes.card)
-finished_so given status left leaves came is = (finished given status left came.ends is, came.opens)
+behind_end : (given : Given) (known : Bool) (left : Option (List ℕ)) (leaves : Leaves) (first : CardView) → is_known first ≡ known → ComesTo given first left play.Finished leaves → EndsInLines given known left play.Finished
+behind_end given known left leaves first is (inl card) = ends_played given known left play.Finished leaves first is card.1
+behind_end given known left leaves first is (inr served) = ends_served given known left play.Finished leaves first is served.0 served.1 served.1.comes
 
-stopped_so : (given : Given) (status number : ℕ) (left taken : Option (List ℕ)) (leaves : Leaves) → EndsInLines given left (play.BadLine number) leaves → status ≡ 2 → taken ≡ append_known leaves.taken (trace_text (line.Line number) ++ [])
-    → (stopped : Stopped given status left taken) × OpensAt given stopped.to
-stopped_so given status number left taken leaves came is told = (stopped_behind given status number leaves.taken taken left came.ends is told, came.opens)
+behind_bad : (given : Given) (known : Bool) (left : Option (List ℕ)) (number : ℕ) (leaves : Leaves) (first : CardView) → is_known first ≡ known → ComesTo given first left (play.BadLine number) leaves → EndsInLines given known left (play.BadLine number)
+behind_bad given known left number leaves first is (inl card) = ends_played given known left (play.BadLine number) leaves first is card.1
+behind_bad given known left number leaves first is (inr served) = ends_served given known left (play.BadLine number) leaves first is served.0 served.1 served.1.comes
 
-verdict_of : (given : Given) (left taken : Option (List ℕ)) (ending : Ending) (leaves : Leaves) (status : ℕ) → status ≡ status_for ending → taken ≡ append_known leaves.taken (last_text ending) → Comes given true left ending leaves
-    → (status ≡ 7 → (IsBoxed given → ⊥) → ⊥) → (ending ≡ Usage → ⊥) → (status_for ending ≡ 3 → ⊥) → (status_for ending ≡ 4 → ⊥) → (status_for ending ≡ 6 → ⊥) → Verdict given status left taken
-verdict_of given left taken Usage leaves status is told comes boxed used sound four six = absurd (used refl)
-verdict_of given left taken NoMemory leaves status is told comes boxed used sound four six = inl is
-verdict_of given left taken (Section (script.BadLine number)) leaves status is told comes boxed used sound four six = inr (inr (inl (stopped_before given status number leaves.taken taken left comes.0 is told, tt)))
-verdict_of given left taken (Section (script.NoRoom number)) leaves status is told comes boxed used sound four six = inr (inr (inl (stopped_full given status number leaves.taken taken left comes.0 is told, tt)))
-verdict_of given left taken (Section script.ReadFailed) leaves status is told comes boxed used sound four six = absurd (sound refl)
-verdict_of given left taken FormatFailed leaves status is told comes boxed used sound four six = absurd (six refl)
-verdict_of given left taken EepromFailed leaves status is told comes boxed used sound four six = absurd (six refl)
-verdict_of given left taken (NotACard at) leaves status is told comes boxed used sound four six = inr (inr (inr (no_card_so given status at left taken leaves is comes told)))
-verdict_of given left taken (NoApplet shelf) leaves status is told comes boxed used sound four six = inr (inr (inr (no_box_so given status shelf left taken leaves (boxed is) is comes told)))
-verdict_of given left taken (Played play.Finished) leaves status is told comes boxed used sound four six = inr (inl (finished_so given status left leaves (behind_end given left leaves comes.0 comes.1 comes.2) is))
-verdict_of given left taken (Played (play.BadLine number)) leaves status is told comes boxed used sound four six = inr (inr (inl (stopped_so given status number left taken leaves (behind_bad given left number leaves comes.0 comes.1 comes.2) is told)))
-verdict_of given left taken (Played play.ReadFailed) leaves status is told comes boxed used sound four six = absurd (sound refl)
-verdict_of given left taken (Played play.SinkFailed) leaves status is told comes boxed used sound four six = absurd (four refl)
-verdict_of given left taken (Played play.ResetFailed) leaves status is told comes boxed used sound four six = absurd (six refl)
-verdict_of given left taken (Counted lines counts) leaves status is told comes boxed used sound four six = absurd comes
-verdict_of given left taken LoadFailed leaves status is told comes boxed used sound four six = absurd comes
+-- ---- what a run comes to by its lines
 
-pub verdict : (given : Given) (left taken : Option (List ℕ)) (ending : Ending) (leaves : Leaves) (status : ℕ) → Closes ending leaves.taken taken status → Comes given true left ending leaves
-    → (status ≡ 7 → (IsBoxed given → ⊥) → ⊥) → (status ≡ 1 → ⊥) → (status ≡ 3 → ⊥) → (status ≡ 4 → ⊥) → (status ≡ 6 → ⊥) → Verdict given status left taken
-verdict given left taken ending leaves status closes comes boxed one three four six =
+-- There was no memory to begin with; or it ended behind its lines, or at one of them, with a card to open if that is known; or with a card that
+-- could not be opened at `start`.
+abbrev pub Verdict : Given → Bool → ℕ → Option (List ℕ) → Option (List ℕ) → Type 0
+Verdict given known status left taken =
+    (status ≡ 5)
+    ⊎ (((finishes : Finishes given status) × (left ≡ Some []) × (known ≡ true → OpensAt given (Behind finishes.card)))
+    ⊎ (((stopped : Stopped given status left taken) × (known ≡ true → OpensAt given stopped.to))
+    ⊎ ((status ≡ 7) × HasStarted given × (known ≡ true → Refused given taken))))
+
+finished_so : (given : Given) (known : Bool) (status : ℕ) (left taken : Option (List ℕ)) → EndsInLines given known left play.Finished → status ≡ 0 → Verdict given known status left taken
+finished_so given known status left taken came is = inr (inl (finished given status left came.0 is, came.0.cause.told, came.1))
+
+stopped_so : (given : Given) (known : Bool) (status number : ℕ) (before left taken : Option (List ℕ)) → EndsInLines given known left (play.BadLine number) → status ≡ 2 → taken ≡ append_known before (trace_text (line.Line number) ++ []) → Verdict given known status left taken
+stopped_so given known status number before left taken came is told = inr (inr (inl (stopped_behind given status number before taken left came.0 is told, came.1)))
+
+verdict_of : (given : Given) (known : Bool) (left taken : Option (List ℕ)) (ending : Ending) (leaves : Leaves) (status : ℕ) → status ≡ status_for ending → taken ≡ append_known leaves.taken (last_text ending) → Comes given known left ending leaves
+    → (status ≡ 7 → (IsBoxed given → ⊥) → ⊥) → (ending ≡ Usage → ⊥) → (status_for ending ≡ 3 → ⊥) → (status_for ending ≡ 4 → ⊥) → (status_for ending ≡ 6 → ⊥) → Verdict given known status left taken
+verdict_of given known left taken Usage leaves status is told comes boxed used three four six = absurd (used refl)
+verdict_of given known left taken NoMemory leaves status is told comes boxed used three four six = inl is
+verdict_of given known left taken (Section (script.BadLine number)) leaves status is told comes boxed used three four six = inr (inr (inl (stopped_before given status number leaves.taken taken left comes.0 is told, λ tells. tt)))
+verdict_of given known left taken (Section (script.NoRoom number)) leaves status is told comes boxed used three four six = inr (inr (inl (stopped_full given status number leaves.taken taken left comes.0 is told, λ tells. tt)))
+verdict_of given known left taken (Section script.ReadFailed) leaves status is told comes boxed used three four six = absurd (three refl)
+verdict_of given known left taken FormatFailed leaves status is told comes boxed used three four six = absurd (six refl)
+verdict_of given known left taken EepromFailed leaves status is told comes boxed used three four six = absurd (six refl)
+verdict_of given known left taken (NotACard at) leaves status is told comes boxed used three four six = inr (inr (inr (is, has_started _ given known left leaves comes, no_card_so given known at left taken leaves comes told)))
+verdict_of given known left taken (NoApplet shelf) leaves status is told comes boxed used three four six = inr (inr (inr (is, has_started _ given known left leaves comes, no_box_so given known shelf left taken leaves (boxed is) comes told)))
+verdict_of given known left taken (Played play.Finished) leaves status is told comes boxed used three four six = finished_so given known status left taken (behind_end given known left leaves comes.0 comes.1 comes.2) is
+verdict_of given known left taken (Played (play.BadLine number)) leaves status is told comes boxed used three four six = stopped_so given known status number leaves.taken left taken (behind_bad given known left number leaves comes.0 comes.1 comes.2) is told
+verdict_of given known left taken (Played play.ReadFailed) leaves status is told comes boxed used three four six = absurd (three refl)
+verdict_of given known left taken (Played play.SinkFailed) leaves status is told comes boxed used three four six = absurd (four refl)
+verdict_of given known left taken (Played play.ResetFailed) leaves status is told comes boxed used three four six = absurd (six refl)
+verdict_of given known left taken (Counted lines counts) leaves status is told comes boxed used three four six = absurd comes
+verdict_of given known left taken LoadFailed leaves status is told comes boxed used three four six = absurd comes
+
+-- the run of a program, but for one with another status
+pub verdict : (given : Given) (known : Bool) (left taken : Option (List ℕ)) (ending : Ending) (leaves : Leaves) (status : ℕ) → Closes ending leaves.taken taken status → Comes given known left ending leaves
+    → (status ≡ 7 → (IsBoxed given → ⊥) → ⊥) → (status ≡ 1 → ⊥) → (status ≡ 3 → ⊥) → (status ≡ 4 → ⊥) → (status ≡ 6 → ⊥) → Verdict given known status left taken
+verdict given known left taken ending leaves status closes comes boxed one three four six =
     elim closes [
-      | inl whole ↦ verdict_of given left taken ending leaves status whole.0 whole.1 comes boxed (λ same. one (whole.0 ∙ ap status_for same)) (λ is. three (whole.0 ∙ is)) (λ is. four (whole.0 ∙ is)) (λ is. six (whole.0 ∙ is))
+      | inl whole ↦ verdict_of given known left taken ending leaves status whole.0 whole.1 comes boxed (λ same. one (whole.0 ∙ ap status_for same)) (λ is. three (whole.0 ∙ is)) (λ is. four (whole.0 ∙ is)) (λ is. six (whole.0 ∙ is))
       | inr broken ↦ absurd (four broken.0)
     ]
+
+-- a good script is carried out to its end
+pub good_ends : (given : Given) (known : Bool) (status : ℕ) (left taken : Option (List ℕ)) → Verdict given known status left taken → IsGoodScript given → (status ≡ 0) ⊎ ((status ≡ 5) ⊎ (status ≡ 7))
+good_ends given known status left taken (inl lacks) good = inr (inl lacks)
+good_ends given known status left taken (inr (inl finishes)) good = inl finishes.0.zero
+good_ends given known status left taken (inr (inr (inl stopped))) good =
+    absurd (whole_no_stop (rules_of given) Only IsLine only_first says_itself stopped.0.found stopped.0.next (Before given.first) stopped.0.to stopped.0.why good.card stopped.0.walk stopped.0.stops
+    (subst (λ l. Walks (rules_of given) IsLine (Before given.first) l (Behind good.card)) stopped.0.parted (walks_whole (rules_of given) IsLine (lines given.text) good.section good.played given.first good.card good.good.said good.good.described good.good.in_place)))
+good_ends given known status left taken (inr (inr (inr refused))) good = inr (inr refused.0)
+
+-- at a line at which it has to stop it does, if the card can be opened
+stops_by : (given : Given) (known : Bool) (status : ℕ) (left taken : Option (List ℕ)) (found next : LineList) (to : Stage) (why : Bool) → Walks (rules_of given) IsLine (Before given.first) found to → Stops (rules_of given) to next why → lines given.text ≡ found ++ next
+    → Verdict given known status left taken → ((status ≡ stop_status why) × TellsNext found taken) ⊎ ((status ≡ 5) ⊎ ((status ≡ 7) × HasStarted given))
+stops_by given known status left taken found next to why walk stops parted (inl lacks) = inr (inl lacks)
+stops_by given known status left taken found next to why walk stops parted (inr (inl finishes)) =
+    absurd (whole_no_stop (rules_of given) IsLine Only only_last only_says found next (Before given.first) to why finishes.0.card walk stops (subst (λ l. Walks (rules_of given) Only (Before given.first) l (Behind finishes.0.card)) parted finishes.0.walk))
+stops_by given known status left taken found next to why walk stops parted (inr (inr (inl stopped))) =
+    let same = one_stop (rules_of given) Only IsLine only_first only_says says_itself stopped.0.found found stopped.0.next next (Before given.first) stopped.0.to to stopped.0.why why stopped.0.walk stopped.0.stops walk stops (sym stopped.0.parted ∙ parted) in
+    inl (stopped.0.is ∙ ap stop_status same.cause, tells_same stopped.0.found found taken same.place stopped.0.tells)
+stops_by given known status left taken found next to why walk stops parted (inr (inr (inr refused))) = inr (inr (refused.0, refused.1))
+
+-- a run that comes to `start` has met no such line
+passed_over : (given : Given) (found next : LineList) (card : Option Persistent) (why : Bool) → Walks (rules_of given) IsLine (Before given.first) found (Before card) → Stops (rules_of given) (Before card) next why → lines given.text ≡ found ++ next → HasStarted given → ⊥
+passed_over given found next card why walk stops parted started =
+    passes_stop (rules_of given) Only IsLine only_first only_says started.found started.more found next (Before given.first) why started.card card (walks_read given started.found started.section [] started.card started.lines_are) walk stops (sym started.parted ∙ parted)
+
+stops_before : (given : Given) (known : Bool) (status : ℕ) (left taken : Option (List ℕ)) (found next : LineList) (section : List ScriptLine) (card : Option Persistent) (why : Bool) → Say found section → with_lines given.boxes given.first section ≡ Ok card → Stops (rules_of given) (Before card) next why
+    → lines given.text ≡ found ++ next → Verdict given known status left taken → ((status ≡ stop_status why) × TellsNext found taken) ⊎ (status ≡ 5)
+stops_before given known status left taken found next section card why said described stops parted verdict =
+    let walk = walks_section (rules_of given) IsLine found section given.first card said described in
+    elim (stops_by given known status left taken found next (Before card) why walk stops parted verdict) [
+      | inl here ↦ inl here
+      | inr (inl lacks) ↦ inr lacks
+      | inr (inr refused) ↦ absurd (passed_over given found next card why walk stops parted refused.1)
+    ]
+
+stops_behind : (given : Given) (known : Bool) (status : ℕ) (left taken : Option (List ℕ)) (found : LineList) → StopsBehind given found → Verdict given known status left taken → ((status ≡ 2) × TellsNext found taken) ⊎ ((status ≡ 5) ⊎ ((status ≡ 7) × HasStarted given))
+stops_behind given known status left taken found behind verdict =
+    stops_by given known status left taken found behind.next (Behind behind.card) false (walks_whole (rules_of given) IsLine found behind.section behind.played given.first behind.card behind.good.said behind.good.described behind.good.in_place) behind.is behind.parted verdict
+
+pub bad_stops : (given : Given) (known : Bool) (status : ℕ) (left taken : Option (List ℕ)) (found : LineList) → IsFirstBad given found → Verdict given known status left taken → ((status ≡ 2) × TellsNext found taken) ⊎ ((status ≡ 5) ⊎ ((status ≡ 7) × StopsBehind given found))
+bad_stops given known status left taken found (inl before) verdict =
+    elim (stops_before given known status left taken found before.next before.section before.card false before.said before.described before.is before.parted verdict) [
+      | inl here ↦ inl here
+      | inr lacks ↦ inr (inl lacks)
+    ]
+bad_stops given known status left taken found (inr behind) verdict =
+    elim (stops_behind given known status left taken found behind verdict) [
+      | inl here ↦ inl here
+      | inr (inl lacks) ↦ inr (inl lacks)
+      | inr (inr refused) ↦ inr (inr (refused.0, behind))
+    ]
+
+pub full_stops : (given : Given) (known : Bool) (status : ℕ) (left taken : Option (List ℕ)) (found : LineList) → IsFirstTooMuch given found → Verdict given known status left taken → ((status ≡ 8) × TellsNext found taken) ⊎ (status ≡ 5)
+full_stops given known status left taken found before verdict = stops_before given known status left taken found before.next before.section before.card true before.said before.described before.is before.parted verdict
+
+-- ---- what a status says of the script
+
+pub zero_is_good : (given : Given) (known : Bool) (status : ℕ) (left taken : Option (List ℕ)) → Verdict given known status left taken → status ≡ 0 → IsGoodScript given
+zero_is_good given known status left taken (inl lacks) is = absurd (omega arith)
+zero_is_good given known status left taken (inr (inl finishes)) is = finishes.0.good
+zero_is_good given known status left taken (inr (inr (inl stopped))) is = absurd (no_zero stopped.0.why (sym is ∙ stopped.0.is))
+zero_is_good given known status left taken (inr (inr (inr refused))) is = let seven = refused.0 in absurd (omega arith)
+
+stop_at : (given : Given) (why wanted : Bool) (found : LineList) → why ≡ wanted → IsStop given why found → IsStop given wanted found
+stop_at given why wanted found same place = subst (λ w. IsStop given w found) same place
+
+pub two_is_bad : (given : Given) (known : Bool) (status : ℕ) (left taken : Option (List ℕ)) → Verdict given known status left taken → status ≡ 2 → StopsAndTells (IsFirstBad given) given.text left taken
+two_is_bad given known status left taken (inl lacks) is = absurd (omega arith)
+two_is_bad given known status left taken (inr (inl finishes)) is = let zero = finishes.0.zero in absurd (omega arith)
+two_is_bad given known status left taken (inr (inr (inl stopped))) is = record {
+  found = stopped.0.found;
+  is = stop_at given stopped.0.why false stopped.0.found (why_two stopped.0.why (sym is ∙ stopped.0.is)) stopped.0.place;
+  tells = stopped.0.tells;
+  reach = stopped.0.reach;
+}
+two_is_bad given known status left taken (inr (inr (inr refused))) is = let seven = refused.0 in absurd (omega arith)
+
+pub eight_is_full : (given : Given) (known : Bool) (status : ℕ) (left taken : Option (List ℕ)) → Verdict given known status left taken → status ≡ 8 → StopsAndTells (IsFirstTooMuch given) given.text left taken
+eight_is_full given known status left taken (inl lacks) is = absurd (omega arith)
+eight_is_full given known status left taken (inr (inl finishes)) is = let zero = finishes.0.zero in absurd (omega arith)
+eight_is_full given known status left taken (inr (inr (inl stopped))) is = record {
+  found = stopped.0.found;
+  is = stop_at given stopped.0.why true stopped.0.found (why_eight stopped.0.why (sym is ∙ stopped.0.is)) stopped.0.place;
+  tells = stopped.0.tells;
+  reach = stopped.0.reach;
+}
+eight_is_full given known status left taken (inr (inr (inr refused))) is = let seven = refused.0 in absurd (omega arith)
+
+-- nothing of the script is left
+pub zero_reads_out : (given : Given) (known : Bool) (status : ℕ) (left taken : Option (List ℕ)) → Verdict given known status left taken → status ≡ 0 → left ≡ Some []
+zero_reads_out given known status left taken (inl lacks) is = absurd (omega arith)
+zero_reads_out given known status left taken (inr (inl finishes)) is = finishes.1
+zero_reads_out given known status left taken (inr (inr (inl stopped))) is = absurd (no_zero stopped.0.why (sym is ∙ stopped.0.is))
+zero_reads_out given known status left taken (inr (inr (inr refused))) is = let seven = refused.0 in absurd (omega arith)
+
+no_seven : (why : Bool) → 7 ≡ stop_status why → ⊥
+no_seven false is = cc
+no_seven true is = cc
+
+-- `start` was read
+pub seven_starts : (given : Given) (known : Bool) (status : ℕ) (left taken : Option (List ℕ)) → Verdict given known status left taken → status ≡ 7 → (card : Option Persistent) × ReachesStart given card
+seven_starts given known status left taken (inl lacks) is = absurd (omega arith)
+seven_starts given known status left taken (inr (inl finishes)) is = let zero = finishes.0.zero in absurd (omega arith)
+seven_starts given known status left taken (inr (inr (inl stopped))) is = absurd (no_seven stopped.0.why (sym is ∙ stopped.0.is))
+seven_starts given known status left taken (inr (inr (inr refused))) is =
+    let started = refused.1 in (
+      started.card,
+      record {
+        found = started.found;
+        more = started.more;
+        section = started.section;
+        parted = started.parted;
+        said = Say-from_read started.found (started.section ++ Start ∷ []) started.lines_are.read;
+        described = started.lines_are.described;
+      },
+    )
 
 -- ---- status 7
 
@@ -542,121 +507,85 @@ no_stop given why found next (Before card) cause stops walk stop can parted =
 no_stop given why found next (Behind card) cause stops walk stop can parted = not_opened_there given why found next card stops walk can parted
 
 -- where the card can't be opened it is refused, and the last line says why
-pub refuses : (given : Given) (status : ℕ) (left taken : Option (List ℕ)) (why : Refusal) → StopsAtStart given why → Verdict given status left taken → ((status ≡ 7) × TellsWhy given why taken) ⊎ (status ≡ 5)
+pub refuses : (given : Given) (status : ℕ) (left taken : Option (List ℕ)) (why : Refusal) → StopsAtStart given why → Verdict given true status left taken → ((status ≡ 7) × TellsWhy given why taken) ⊎ (status ≡ 5)
 refuses given status left taken why stops (inl lacks) = inr lacks
-refuses given status left taken why stops (inr (inl finishes)) = absurd (not_opened_there given why (lines given.text) [] finishes.0.card stops finishes.0.walk finishes.1 (sym (append-nil (lines given.text))))
-refuses given status left taken why stops (inr (inr (inl stopped))) = absurd (no_stop given why stopped.0.found stopped.0.next stopped.0.to stopped.0.why stops stopped.0.walk stopped.0.stops stopped.1 stopped.0.parted)
+refuses given status left taken why stops (inr (inl finishes)) = absurd (not_opened_there given why (lines given.text) [] finishes.0.card stops finishes.0.walk (finishes.2 refl) (sym (append-nil (lines given.text))))
+refuses given status left taken why stops (inr (inr (inl stopped))) = absurd (no_stop given why stopped.0.found stopped.0.next stopped.0.to stopped.0.why stops stopped.0.walk stopped.0.stops (stopped.1 refl) stopped.0.parted)
 refuses given status left taken why stops (inr (inr (inr refused))) =
-    inl (refused.seven, subst (λ w. TellsWhy given w taken) (one_cause given refused.why why refused.cannot stops.cannot) refused.tells)
+    let cause = refused.2 refl in inl (refused.0, subst (λ w. TellsWhy given w taken) (one_cause given cause.why why cause.cannot stops.cannot) cause.tells)
 
-pub seven_refuses : (given : Given) (status : ℕ) (left taken : Option (List ℕ)) → Verdict given status left taken → status ≡ 7 → RefusesAndTells given taken
+pub seven_refuses : (given : Given) (status : ℕ) (left taken : Option (List ℕ)) → Verdict given true status left taken → status ≡ 7 → RefusesAndTells given taken
 seven_refuses given status left taken (inl lacks) is = absurd (omega arith)
 seven_refuses given status left taken (inr (inl finishes)) is = let zero = finishes.0.zero in absurd (omega arith)
 seven_refuses given status left taken (inr (inr (inl stopped))) is = absurd (no_seven stopped.0.why (sym is ∙ stopped.0.is))
-seven_refuses given status left taken (inr (inr (inr refused))) is = record {
-  why = refused.why;
-  stops = record { reaches = refused.reaches; cannot = refused.cannot };
-  tells = refused.tells;
-}
+seven_refuses given status left taken (inr (inr (inr refused))) is =
+    let cause = refused.2 refl in record { why = cause.why; stops = record { reaches = cause.reaches; cannot = cause.cannot }; tells = cause.tells }
 
 -- where it can be opened, it is
 not_refused : (given : Given) (taken : Option (List ℕ)) → RefusesAndTells given taken → CanOpen given → ⊥
 not_refused given taken refused can = cannot_open given refused.why refused.stops.cannot (can refused.stops.reaches)
 
-pub completes : (given : Given) (status : ℕ) (left taken : Option (List ℕ)) → LineVerdict given status left taken → (status ≡ 7 → RefusesAndTells given taken) → IsGoodScript given → CanOpen given → (status ≡ 0) ⊎ (status ≡ 5)
-completes given status left taken verdict seven good can =
-    elim (good_ends given status left taken verdict good) [
+pub completes : (given : Given) (status : ℕ) (left taken : Option (List ℕ)) → Verdict given true status left taken → IsGoodScript given → CanOpen given → (status ≡ 0) ⊎ (status ≡ 5)
+completes given status left taken verdict good can =
+    elim (good_ends given true status left taken verdict good) [
       | inl zero ↦ inl zero
       | inr (inl lacks) ↦ inr lacks
-      | inr (inr refused) ↦ absurd (not_refused given taken (seven refused) can)
+      | inr (inr seven) ↦ absurd (not_refused given taken (seven_refuses given status left taken verdict seven) can)
     ]
 
-pub stops_bad : (given : Given) (status : ℕ) (left taken : Option (List ℕ)) (found : LineList) → MeetsBad given found → LineVerdict given status left taken → (status ≡ 7 → RefusesAndTells given taken) → ((status ≡ 2) × TellsNext found taken) ⊎ (status ≡ 5)
-stops_bad given status left taken found (inl before) verdict seven = stops_before given status left taken found before.next before.section before.card false before.said before.described before.is before.parted verdict
-stops_bad given status left taken found (inr met) verdict seven =
-    elim (stops_behind given status left taken found met.0 verdict) [
+pub stops_bad : (given : Given) (status : ℕ) (left taken : Option (List ℕ)) (found : LineList) → MeetsBad given found → Verdict given true status left taken → ((status ≡ 2) × TellsNext found taken) ⊎ (status ≡ 5)
+stops_bad given status left taken found (inl before) verdict = stops_before given true status left taken found before.next before.section before.card false before.said before.described before.is before.parted verdict
+stops_bad given status left taken found (inr met) verdict =
+    elim (stops_behind given true status left taken found met.0 verdict) [
       | inl here ↦ inl here
       | inr (inl lacks) ↦ inr lacks
-      | inr (inr refused) ↦ absurd (not_refused given taken (seven refused.0) met.1)
+      | inr (inr refused) ↦ absurd (not_refused given taken (seven_refuses given status left taken verdict refused.0) met.1)
     ]
 
--- ---- want of memory
+-- ---- what an end is by its status
 
-five_of : (ending : Ending) → status_for ending ≡ 5 → ending ≡ NoMemory
-five_of Usage is = absurd (cc is)
-five_of NoMemory is = refl
-five_of (Section (script.BadLine number)) is = absurd (cc is)
-five_of (Section script.ReadFailed) is = absurd (cc is)
-five_of (Section (script.NoRoom number)) is = absurd (cc is)
-five_of FormatFailed is = absurd (cc is)
-five_of EepromFailed is = absurd (cc is)
-five_of (NotACard at) is = absurd (cc is)
-five_of (NoApplet shelf) is = absurd (cc is)
-five_of (Played play.Finished) is = absurd (cc is)
-five_of (Played (play.BadLine number)) is = absurd (cc is)
-five_of (Played play.ReadFailed) is = absurd (cc is)
-five_of (Played play.SinkFailed) is = absurd (cc is)
-five_of (Played play.ResetFailed) is = absurd (cc is)
-five_of (Counted lines counts) is = absurd (cc is)
-five_of LoadFailed is = absurd (cc is)
+record ByStatus (ending : Ending) : Type 0 where
+  one : status_for ending ≡ 1 → ending ≡ Usage
+  five : status_for ending ≡ 5 → ending ≡ NoMemory
+  six : status_for ending ≡ 6 → (ending ≡ Played play.ResetFailed) ⊎ (IsUnshown ending × (last_text ending ≡ last_text EepromFailed))
+
+by_status : (ending : Ending) → ByStatus ending
+by_status Usage = record { one = λ is. refl; five = λ is. absurd (cc is); six = λ is. absurd (cc is) }
+by_status NoMemory = record { one = λ is. absurd (cc is); five = λ is. refl; six = λ is. absurd (cc is) }
+by_status (Section (script.BadLine number)) = record { one = λ is. absurd (cc is); five = λ is. absurd (cc is); six = λ is. absurd (cc is) }
+by_status (Section script.ReadFailed) = record { one = λ is. absurd (cc is); five = λ is. absurd (cc is); six = λ is. absurd (cc is) }
+by_status (Section (script.NoRoom number)) = record { one = λ is. absurd (cc is); five = λ is. absurd (cc is); six = λ is. absurd (cc is) }
+by_status FormatFailed = record { one = λ is. absurd (cc is); five = λ is. absurd (cc is); six = λ is. inr (tt, refl) }
+by_status EepromFailed = record { one = λ is. absurd (cc is); five = λ is. absurd (cc is); six = λ is. inr (tt, refl) }
+by_status (NotACard at) = record { one = λ is. absurd (cc is); five = λ is. absurd (cc is); six = λ is. absurd (cc is) }
+by_status (NoApplet shelf) = record { one = λ is. absurd (cc is); five = λ is. absurd (cc is); six = λ is. absurd (cc is) }
+by_status (Played play.Finished) = record { one = λ is. absurd (cc is); five = λ is. absurd (cc is); six = λ is. absurd (cc is) }
+by_status (Played (play.BadLine number)) = record { one = λ is. absurd (cc is); five = λ is. absurd (cc is); six = λ is. absurd (cc is) }
+by_status (Played play.ReadFailed) = record { one = λ is. absurd (cc is); five = λ is. absurd (cc is); six = λ is. absurd (cc is) }
+by_status (Played play.SinkFailed) = record { one = λ is. absurd (cc is); five = λ is. absurd (cc is); six = λ is. absurd (cc is) }
+by_status (Played play.ResetFailed) = record { one = λ is. absurd (cc is); five = λ is. absurd (cc is); six = λ is. inl refl }
+by_status (Counted lines counts) = record { one = λ is. absurd (cc is); five = λ is. absurd (cc is); six = λ is. absurd (cc is) }
+by_status LoadFailed = record { one = λ is. absurd (cc is); five = λ is. absurd (cc is); six = λ is. inr (tt, refl) }
 
 -- a run that ends with 5 ends for that, also where a failing sink would end it with 4
 pub five_is : (ending : Ending) (status : ℕ) → (status ≡ status_for ending) ⊎ (status ≡ 4) → status ≡ 5 → ending ≡ NoMemory
-five_is ending status closed is = ⊎_elim {C = ending ≡ NoMemory} (λ own. five_of ending (sym own ∙ is)) (λ four. absurd (omega (arith, four, is))) closed
+five_is ending status closed is = ⊎_elim {C = ending ≡ NoMemory} (λ own. (by_status ending).five (sym own ∙ is)) (λ four. absurd (omega (arith, four, is))) closed
 
 -- a run that ends with 7 was asked for
 pub not_usage : (ending : Ending) (status : ℕ) → (status ≡ status_for ending) ⊎ (status ≡ 4) → status ≡ 7 → ending ≡ Usage → ⊥
 not_usage ending status closed seven usage =
     ⊎_elim {C = ⊥} (λ own. let one : status ≡ 1 = own ∙ ap status_for usage in omega (arith, seven, one)) (λ four. omega (arith, seven, four)) closed
 
-one_of : (ending : Ending) → status_for ending ≡ 1 → ending ≡ Usage
-one_of Usage is = refl
-one_of NoMemory is = absurd (cc is)
-one_of (Section (script.BadLine number)) is = absurd (cc is)
-one_of (Section script.ReadFailed) is = absurd (cc is)
-one_of (Section (script.NoRoom number)) is = absurd (cc is)
-one_of FormatFailed is = absurd (cc is)
-one_of EepromFailed is = absurd (cc is)
-one_of (NotACard at) is = absurd (cc is)
-one_of (NoApplet shelf) is = absurd (cc is)
-one_of (Played play.Finished) is = absurd (cc is)
-one_of (Played (play.BadLine number)) is = absurd (cc is)
-one_of (Played play.ReadFailed) is = absurd (cc is)
-one_of (Played play.SinkFailed) is = absurd (cc is)
-one_of (Played play.ResetFailed) is = absurd (cc is)
-one_of (Counted lines counts) is = absurd (cc is)
-one_of LoadFailed is = absurd (cc is)
-
 -- a run that ends with 1 ends for its words
 pub one_is : (ending : Ending) (status : ℕ) → (status ≡ status_for ending) ⊎ (status ≡ 4) → status ≡ 1 → ending ≡ Usage
-one_is ending status closed is = ⊎_elim {C = ending ≡ Usage} (λ own. one_of ending (sym own ∙ is)) (λ four. absurd (omega (arith, four, is))) closed
-
--- ---- status 6
-
-six_of : (ending : Ending) → status_for ending ≡ 6 → (ending ≡ Played play.ResetFailed) ⊎ (IsUnshown ending × (last_text ending ≡ last_text EepromFailed))
-six_of Usage is = absurd (cc is)
-six_of NoMemory is = absurd (cc is)
-six_of (Section (script.BadLine number)) is = absurd (cc is)
-six_of (Section script.ReadFailed) is = absurd (cc is)
-six_of (Section (script.NoRoom number)) is = absurd (cc is)
-six_of FormatFailed is = inr (tt, refl)
-six_of EepromFailed is = inr (tt, refl)
-six_of (NotACard at) is = absurd (cc is)
-six_of (NoApplet shelf) is = absurd (cc is)
-six_of (Played play.Finished) is = absurd (cc is)
-six_of (Played (play.BadLine number)) is = absurd (cc is)
-six_of (Played play.ReadFailed) is = absurd (cc is)
-six_of (Played play.SinkFailed) is = absurd (cc is)
-six_of (Played play.ResetFailed) is = inl refl
-six_of (Counted lines counts) is = absurd (cc is)
-six_of LoadFailed is = inr (tt, refl)
+one_is ending status closed is = ⊎_elim {C = ending ≡ Usage} (λ own. (by_status ending).one (sym own ∙ is)) (λ four. absurd (omega (arith, four, is))) closed
 
 -- a fault was counted in a reset, or nothing was shown but the last line
 pub six_shows : (ending : Ending) (start before taken : Option (List ℕ)) (status : ℕ) (HasFault : Type 0) → Closes ending before taken status → (ending ≡ Played play.ResetFailed → HasFault) → (IsUnshown ending → before ≡ start) → status ≡ 6
     → HasFault ⊎ (taken ≡ append_known start (last_text EepromFailed))
 six_shows ending start before taken status HasFault (inr broken) fault unshown six = let four = broken.0 in absurd (omega arith)
 six_shows ending start before taken status HasFault (inl whole) fault unshown six =
-    elim (six_of ending (sym whole.0 ∙ six)) [
+    elim ((by_status ending).six (sym whole.0 ∙ six)) [
       | inl reset ↦ inl (fault reset)
       | inr alone ↦ inr (whole.1 ∙ ap (append_known before) alone.1 ∙ ap (λ b. append_known b (last_text EepromFailed)) (unshown alone.0))
     ]

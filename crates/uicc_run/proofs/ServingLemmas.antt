@@ -1,10 +1,10 @@
 -- The lines after `start`, from the card that was opened to the end, where they go to a handset or to the card.
-use Rattle.std.proofs.Common.{◌≡◌, ℕ, false, List, [], ◌∷◌, ◌++◌, Option, Some, None, refl, sym, ap, ◌∙◌}
-use Rattle.std.proofs.lemmas.List.{append-nil}
+use Rattle.std.proofs.Common.{◌≡◌, ℕ, false, List, [], ◌∷◌, ◌++◌, Option, None, refl, sym, ◌∙◌}
 use Rattle.script_form.specs.declared.lines.ScriptLine.{ScriptLine}
 use Rattle.script_form.specs.declared.lines.ScriptLine.TheVariants.{Start}
 use Rattle.script_reader.specs.declared.behind.PlayEnd.{PlayEnd}
 use Rattle.script_reader.specs.declared.reader.ScriptReader.{ScriptReader}
+use Rattle.run_steps.proofs.SteppingLemmas.{taken_none}
 use Rattle.run_steps.specs.Stepping.{Moment}
 use Rattle.run_steps.specs.Views.{CardView}
 use Rattle.phone_runs.specs.Lines.{PhoneComesTo}
@@ -27,7 +27,7 @@ module _ (given : Given) (first : CardView) (script : ScriptReader) (left : Opti
     follows = started.follows;
     keeps = refl;
     seen = started.begins.seen;
-    written = started.begins.written ∙ ap Some (sym (append-nil given.before));
+    written = started.begins.written ∙ sym (taken_none given.before);
     counted = started.begins.counted;
     waits = started.begins.waits;
     rests = started.begins.rests;

@@ -1,5 +1,5 @@
 -- What the run of a terminal's channels comes to.
-use Rattle.std.proofs.Common.{◌≡◌, ◌⊎◌, ◌≤◌, ℕ, List, [], Option, Some, refl, sym, ◌∙◌, inl, inr, arith}
+use Rattle.std.proofs.Common.{◌≡◌, ◌⊎◌, ◌≤◌, ℕ, List, [], Option, Some, refl, inl, inr, arith}
 use Rattle.std.specs.Io.KnownBytes.{append_known}
 use Rattle.uicc_types.specs.Counts.{Rose}
 use Rattle.byte_streams.specs.Lines.{LineList}
@@ -7,7 +7,7 @@ use Rattle.script_reader.specs.declared.behind.PlayEnd.TheVariants as play
 use Rattle.command_line.specs.Model.{AskForRun}
 use Rattle.command_line.specs.declared.requests.Mode.TheVariants.{Bip}
 use Rattle.bip_runs.proofs.ScriptsLemmas.{bad_ends_not, bad_stops_there, end_was_good, good_stops_not, stop_was_bad}
-use Rattle.bip_runs.specs.Serving.{IsFirstBadBip, IsGoodBip}
+use Rattle.bip_runs.specs.Serving.{BipComesTo, IsFirstBadBip, IsGoodBip}
 use Rattle.uicc_run.specs.Endings.{status_for}
 use Rattle.uicc_run.specs.Headline.{Closes, last_text}
 use Rattle.uicc_run.specs.Running.{ServesToEnd}
@@ -31,104 +31,82 @@ pub status_low : (own status : ℕ) → (status ≡ own) ⊎ (status ≡ 4) → 
 status_low own status (inl is) low = omega arith
 status_low own status (inr is) low = omega arith
 
--- a good script is carried out to its end
-good_of : (text : List ℕ) (before left put : Option (List ℕ)) (ending : Ending) (status : ℕ) → ComesToBip text before left put ending → status ≡ status_for ending → IsGoodBip text → (status ≡ 3 → ⊥) → (status ≡ 4 → ⊥) → (status ≡ 0) ⊎ (status ≡ 5)
-good_of text before left put NoMemory status comes is good three four = inr is
-good_of text before left put (Played play.Finished) status comes is good three four = inl is
-good_of text before left put (Played (play.BadLine number)) status comes is good three four = absurd (good_stops_not text before left put number good comes)
-good_of text before left put (Played play.ReadFailed) status comes is good three four = absurd (three is)
-good_of text before left put (Played play.SinkFailed) status comes is good three four = absurd (four is)
-good_of text before left put (Played play.ResetFailed) status comes is good three four = absurd comes
-good_of text before left put Usage status comes is good three four = absurd comes
-good_of text before left put (Section fault) status comes is good three four = absurd comes
-good_of text before left put FormatFailed status comes is good three four = absurd comes
-good_of text before left put EepromFailed status comes is good three four = absurd comes
-good_of text before left put (NotACard at) status comes is good three four = absurd comes
-good_of text before left put (NoApplet shelf) status comes is good three four = absurd comes
-good_of text before left put (Counted lines counts) status comes is good three four = absurd comes
-good_of text before left put LoadFailed status comes is good three four = absurd comes
+-- ---- what it comes to
 
+-- There was no memory; all lines were carried out; it stopped at a line, whose number is told last; or the source or the sink failed.
+abbrev Verdict : List ℕ → Option (List ℕ) → Option (List ℕ) → Option (List ℕ) → Option (List ℕ) → ℕ → Type 0
+Verdict text before left put taken status =
+    (status ≡ 5)
+    ⊎ (((status ≡ 0) × BipComesTo text before left put play.Finished)
+    ⊎ (((number : ℕ) × (status ≡ 2) × BipComesTo text before left put (play.BadLine number) × (taken ≡ append_known put (last_text (Played (play.BadLine number)))))
+    ⊎ ((status ≡ 3) ⊎ (status ≡ 4))))
+
+verdict_of : (text : List ℕ) (before left put taken : Option (List ℕ)) (ending : Ending) (status : ℕ) → ComesToBip text before left put ending → status ≡ status_for ending → taken ≡ append_known put (last_text ending) → Verdict text before left put taken status
+verdict_of text before left put taken NoMemory status comes is told = inl is
+verdict_of text before left put taken (Played play.Finished) status comes is told = inr (inl (is, comes))
+verdict_of text before left put taken (Played (play.BadLine number)) status comes is told = inr (inr (inl (number, is, comes, told)))
+verdict_of text before left put taken (Played play.ReadFailed) status comes is told = inr (inr (inr (inl is)))
+verdict_of text before left put taken (Played play.SinkFailed) status comes is told = inr (inr (inr (inr is)))
+verdict_of text before left put taken (Played play.ResetFailed) status comes is told = absurd comes
+verdict_of text before left put taken Usage status comes is told = absurd comes
+verdict_of text before left put taken (Section fault) status comes is told = absurd comes
+verdict_of text before left put taken FormatFailed status comes is told = absurd comes
+verdict_of text before left put taken EepromFailed status comes is told = absurd comes
+verdict_of text before left put taken (NotACard at) status comes is told = absurd comes
+verdict_of text before left put taken (NoApplet shelf) status comes is told = absurd comes
+verdict_of text before left put taken (Counted lines counts) status comes is told = absurd comes
+verdict_of text before left put taken LoadFailed status comes is told = absurd comes
+
+verdict : (text : List ℕ) (before : Option (List ℕ)) (seen : Seen) (traces : TracesBip text before seen) → Verdict text before seen.left traces.put seen.taken seen.status
+verdict text before seen traces = elim traces.closes [
+  | inl whole ↦ verdict_of text before seen.left traces.put seen.taken traces.ending seen.status traces.comes whole.0 whole.1
+  | inr broken ↦ inr (inr (inr (inr broken.0)))
+]
+
+-- a good script is carried out to its end
 pub bip_completes : (text : List ℕ) (before : Option (List ℕ)) (seen : Seen) → TracesBip text before seen → IsGoodBip text → (seen.status ≡ 3 → ⊥) → (seen.status ≡ 4 → ⊥) → (seen.status ≡ 0) ⊎ (seen.status ≡ 5)
-bip_completes text before seen traces good three four = elim traces.closes [
-  | inl whole ↦ good_of text before seen.left traces.put traces.ending seen.status traces.comes whole.0 good three four
-  | inr broken ↦ absurd (four broken.0)
+bip_completes text before seen traces good three four = elim (verdict text before seen traces) [
+  | inl lacks ↦ inr lacks
+  | inr (inl ends) ↦ inl ends.0
+  | inr (inr (inl stops)) ↦ absurd (good_stops_not text before seen.left traces.put stops.0 good stops.2)
+  | inr (inr (inr (inl is))) ↦ absurd (three is)
+  | inr (inr (inr (inr is))) ↦ absurd (four is)
 ]
 
 -- the last line tells the number of the line after these
-bad_of : (text : List ℕ) (before left put taken : Option (List ℕ)) (ending : Ending) (status : ℕ) (found : LineList) → ComesToBip text before left put ending → status ≡ status_for ending → taken ≡ append_known put (last_text ending) → IsFirstBadBip text found → (status ≡ 3 → ⊥) → (status ≡ 4 → ⊥)
-    → ((status ≡ 2) × TellsNext found taken) ⊎ (status ≡ 5)
-bad_of text before left put taken NoMemory status found comes is told bad three four = inr is
-bad_of text before left put taken (Played play.Finished) status found comes is told bad three four = absurd (bad_ends_not text before left put found bad comes)
-bad_of text before left put taken (Played (play.BadLine number)) status found comes is told bad three four =
-    inl (is, tells_it put taken found number (bad_stops_there text before left put found number bad comes) told)
-bad_of text before left put taken (Played play.ReadFailed) status found comes is told bad three four = absurd (three is)
-bad_of text before left put taken (Played play.SinkFailed) status found comes is told bad three four = absurd (four is)
-bad_of text before left put taken (Played play.ResetFailed) status found comes is told bad three four = absurd comes
-bad_of text before left put taken Usage status found comes is told bad three four = absurd comes
-bad_of text before left put taken (Section fault) status found comes is told bad three four = absurd comes
-bad_of text before left put taken FormatFailed status found comes is told bad three four = absurd comes
-bad_of text before left put taken EepromFailed status found comes is told bad three four = absurd comes
-bad_of text before left put taken (NotACard at) status found comes is told bad three four = absurd comes
-bad_of text before left put taken (NoApplet shelf) status found comes is told bad three four = absurd comes
-bad_of text before left put taken (Counted lines counts) status found comes is told bad three four = absurd comes
-bad_of text before left put taken LoadFailed status found comes is told bad three four = absurd comes
-
 pub bip_stops_bad : (text : List ℕ) (before : Option (List ℕ)) (seen : Seen) (found : LineList) → TracesBip text before seen → IsFirstBadBip text found → (seen.status ≡ 3 → ⊥) → (seen.status ≡ 4 → ⊥)
     → ((seen.status ≡ 2) × TellsNext found seen.taken) ⊎ (seen.status ≡ 5)
-bip_stops_bad text before seen found traces bad three four = elim traces.closes [
-  | inl whole ↦ bad_of text before seen.left traces.put seen.taken traces.ending seen.status found traces.comes whole.0 whole.1 bad three four
-  | inr broken ↦ absurd (four broken.0)
+bip_stops_bad text before seen found traces bad three four = elim (verdict text before seen traces) [
+  | inl lacks ↦ inr lacks
+  | inr (inl ends) ↦ absurd (bad_ends_not text before seen.left traces.put found bad ends.1)
+  | inr (inr (inl stops)) ↦ inl (stops.1, tells_it traces.put seen.taken found stops.0 (bad_stops_there text before seen.left traces.put found stops.0 bad stops.2) stops.3)
+  | inr (inr (inr (inl is))) ↦ absurd (three is)
+  | inr (inr (inr (inr is))) ↦ absurd (four is)
 ]
 
 -- ---- what a status says of the script
 
-zero_of : (text : List ℕ) (before left put : Option (List ℕ)) (ending : Ending) → ComesToBip text before left put ending → 0 ≡ status_for ending → IsGoodBip text × (left ≡ Some [])
-zero_of text before left put (Played play.Finished) comes is = (end_was_good text before left put comes, comes.cause.1.told)
-zero_of text before left put NoMemory comes is = absurd (cc)
-zero_of text before left put (Played (play.BadLine number)) comes is = absurd (cc)
-zero_of text before left put (Played play.ReadFailed) comes is = absurd (cc)
-zero_of text before left put (Played play.SinkFailed) comes is = absurd (cc)
-zero_of text before left put (Played play.ResetFailed) comes is = absurd comes
-zero_of text before left put Usage comes is = absurd comes
-zero_of text before left put (Section fault) comes is = absurd comes
-zero_of text before left put FormatFailed comes is = absurd comes
-zero_of text before left put EepromFailed comes is = absurd comes
-zero_of text before left put (NotACard at) comes is = absurd comes
-zero_of text before left put (NoApplet shelf) comes is = absurd comes
-zero_of text before left put (Counted lines counts) comes is = absurd comes
-zero_of text before left put LoadFailed comes is = absurd comes
-
 pub bip_zero : (text : List ℕ) (before : Option (List ℕ)) (seen : Seen) → TracesBip text before seen → seen.status ≡ 0 → IsGoodBip text × (seen.left ≡ Some [])
-bip_zero text before seen traces zero = elim traces.closes [
-  | inl whole ↦ zero_of text before seen.left traces.put traces.ending traces.comes (sym zero ∙ whole.0)
-  | inr broken ↦ let four = broken.0 in absurd (omega arith)
+bip_zero text before seen traces zero = elim (verdict text before seen traces) [
+  | inl lacks ↦ absurd (omega (arith, lacks, zero))
+  | inr (inl ends) ↦ (end_was_good text before seen.left traces.put ends.1, ends.1.cause.1.told)
+  | inr (inr (inl stops)) ↦ let two = stops.1 in absurd (omega (arith, two, zero))
+  | inr (inr (inr (inl is))) ↦ absurd (omega (arith, is, zero))
+  | inr (inr (inr (inr is))) ↦ absurd (omega (arith, is, zero))
 ]
 
-two_of : (text : List ℕ) (before left put taken : Option (List ℕ)) (ending : Ending) → ComesToBip text before left put ending → 2 ≡ status_for ending → taken ≡ append_known put (last_text ending) → StopsAndTells (IsFirstBadBip text) text left taken
-two_of text before left put taken (Played (play.BadLine number)) comes is told = record {
-  found = comes.found;
-  is = stop_was_bad text before left put number comes;
-  tells = tells_it put taken comes.found number comes.cause.counted told;
-  reach = comes.cause.reach;
-}
-two_of text before left put taken NoMemory comes is told = absurd (cc)
-two_of text before left put taken (Played play.Finished) comes is told = absurd (cc)
-two_of text before left put taken (Played play.ReadFailed) comes is told = absurd (cc)
-two_of text before left put taken (Played play.SinkFailed) comes is told = absurd (cc)
-two_of text before left put taken (Played play.ResetFailed) comes is told = absurd comes
-two_of text before left put taken Usage comes is told = absurd comes
-two_of text before left put taken (Section fault) comes is told = absurd comes
-two_of text before left put taken FormatFailed comes is told = absurd comes
-two_of text before left put taken EepromFailed comes is told = absurd comes
-two_of text before left put taken (NotACard at) comes is told = absurd comes
-two_of text before left put taken (NoApplet shelf) comes is told = absurd comes
-two_of text before left put taken (Counted lines counts) comes is told = absurd comes
-two_of text before left put taken LoadFailed comes is told = absurd comes
-
 pub bip_two : (text : List ℕ) (before : Option (List ℕ)) (seen : Seen) → TracesBip text before seen → seen.status ≡ 2 → StopsAndTells (IsFirstBadBip text) text seen.left seen.taken
-bip_two text before seen traces two = elim traces.closes [
-  | inl whole ↦ two_of text before seen.left traces.put seen.taken traces.ending traces.comes (sym two ∙ whole.0) whole.1
-  | inr broken ↦ let four = broken.0 in absurd (omega arith)
+bip_two text before seen traces two = elim (verdict text before seen traces) [
+  | inl lacks ↦ absurd (omega (arith, lacks, two))
+  | inr (inl ends) ↦ let zero = ends.0 in absurd (omega (arith, zero, two))
+  | inr (inr (inl stops)) ↦ record {
+    found = stops.2.found;
+    is = stop_was_bad text before seen.left traces.put stops.0 stops.2;
+    tells = tells_it traces.put seen.taken stops.2.found stops.0 stops.2.cause.counted stops.3;
+    reach = stops.2.cause.reach;
+  }
+  | inr (inr (inr (inl is))) ↦ absurd (omega (arith, is, two))
+  | inr (inr (inr (inr is))) ↦ absurd (omega (arith, is, two))
 ]
 
 -- ---- all of it

@@ -11,7 +11,7 @@ use Rattle.uicc_run.specs.Causes.{IsSeenCause}
 use Rattle.uicc_run.specs.Endings.{HasFailed, status_for}
 use Rattle.uicc_run.specs.Headline.{Closes, Traces}
 use Rattle.uicc_run.specs.Loading.{AskToLoad, IsFixedCard, LoadsFrom, TracesLoad}
-use Rattle.uicc_run.specs.Opening.{IsToRead, RunsFrom}
+use Rattle.uicc_run.specs.Opening.{RunsFrom}
 use Rattle.uicc_run.specs.Pages.{AsksFor, IsNoUse, Shows}
 use Rattle.uicc_run.specs.Playing.{Given}
 use Rattle.uicc_run.specs.Running.{EndsByCard, EndsByScript}
@@ -44,11 +44,11 @@ pub record HasLoaded (given : Given) (told : Bool) (start count : ℕ) (before :
       (λ ending. status_for ending ≡ 6 → HasFailed given.meter meter)
   pub complete : (card : Persistent) → IsUndisturbed seen → IsFixedCard given.boxes card → (seen.status ≡ 0) ⊎ (seen.status ≡ 5) ⊎ ((seen.status ≡ 7) × (told ≡ false))
 
--- What is said over any memory, an image too, which tells nothing: of a script's lines the trace, where the sink tells what it has taken; by
--- the script alone, over any sink, which status comes; how many bytes of it are taken at most; and what a long run comes to.
+-- What is said over any memory, an image too, which tells nothing, and over any sink: of a script's lines the trace; by the script alone, which
+-- status comes; how many bytes of it are taken at most; and what a long run comes to.
 pub record KeepsToScripts (words : List (List ℕ)) (status : ℕ) (before after : World) : Type 0 where
   pub trace : (given : Given) → RunsFrom given false words before → HasTrace given false words (seen status before after)
-  pub script : (given : Given) → IsToRead given words before → EndsByScript given words (seen status before after)
+  pub script : (given : Given) → RunsFrom given false words before → EndsByScript given words (seen status before after)
   pub taken : (text : List ℕ) → before.left ≡ Some text → IsTaken (MOST_BYTES + 1) text after.left
   pub load : (given : Given) (start count : ℕ) → LoadsFrom given false start count words before → HasLoaded given false start count before.taken (seen status before after)
 

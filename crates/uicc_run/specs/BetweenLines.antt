@@ -1,5 +1,6 @@
 -- Where a run stands between two lines after `start`, and what a line comes to. A whole run is told without it.
-use Rattle.std.specs.Prelude.{ℕ, List, [], Option, ◌≡◌, false, ◌++◌, Some, Result, Ok, Err, ◌≤◌, true, ◌∷◌, length, None}
+use Rattle.std.specs.Prelude.{ℕ, List, [], Option, ◌≡◌, false, Result, Ok, Err, ◌≤◌, true, ◌∷◌, length, None}
+use Rattle.std.specs.Io.KnownBytes.{append_known}
 use Rattle.uicc_types.specs.declared.answers.Answer.{Answer}
 use Rattle.uicc_types.specs.declared.byte_lists.TheConstants.{LONGEST_COMMAND}
 use Rattle.uicc_types.specs.declared.plans.TheConstants.Plan.{NONE}
@@ -44,7 +45,7 @@ pub record IsPlaying (given : Given) (first : CardView) (script : ScriptReader) 
   pub follows : Follows given.text done.found script left
   pub keeps : done.kept ≡ kept
   pub seen : IsSeen done.card now
-  pub written : now.taken ≡ Some (given.before ++ text_of done.account.shown)
+  pub written : now.taken ≡ append_known given.before (text_of done.account.shown)
   pub counted : IsCounted given.meter now.meter (plan_given done.account.steps) done.account.own
   pub waits : now.waiting ≡ waiting_after NONE done.account.steps
   pub rests : Rests done.card done.account.own now.is_due

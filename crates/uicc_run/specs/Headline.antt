@@ -26,7 +26,7 @@ use Rattle.uicc_run.specs.declared.endings.Ending.TheVariants.{Usage, NoMemory, 
 
 -- nothing was put into the sink, and the memory was given no plan
 pub record IsQuiet (given : Given) (leaves : Leaves) : Type 0 where
-  pub written : leaves.taken ≡ Some given.before
+  pub written : leaves.taken ≡ given.before
   pub counted : IsUnplanned given.meter leaves.meter
 
 -- `start` was read, and no more of the text was taken than it needs, but for the rest of the last piece. The card was not opened. By the
@@ -79,7 +79,7 @@ pub record FailsToOpen (given : Given) (card held : Option Persistent) : Type 0 
 -- device of the card's memory counted no fault and was given no plan. Where that memory tells its bytes, it stands for what it stood for before,
 -- if it did, or for just the card that was to be opened.
 pub record HasNoMemory (given : Given) (told : Bool) (left : Option (List ℕ)) (leaves : Leaves) : Type 0 where
-  pub written : leaves.taken ≡ Some given.before
+  pub written : leaves.taken ≡ given.before
   pub counted : IsCounted given.meter leaves.meter [] []
   pub begun_at_most : (left ≡ Some given.text) ⊎ IsNotOpened given told left leaves (λ section card. Unit {0})
   pub memory_kept : told ≡ true → (leaves.held ≡ result_ok given.memory) ⊎ IsNotOpened given told left leaves (λ section card. HoldsStart given section leaves.held)

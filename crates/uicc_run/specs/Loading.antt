@@ -57,7 +57,7 @@ IsFixedFirst given card first = Known (λ machine. machine ≡ first_machine car
 
 -- what its handset begins with: the trace is not kept
 abbrev pub load_beginning : Given → CardView → Beginning
-load_beginning given first = record { first = first; before = []; meter = given.meter }
+load_beginning given first = record { first = first; before = Some []; meter = given.meter }
 
 -- this is left of a moment
 pub record IsLeft (leaves : Leaves) (at : Moment) : Type 0 where
@@ -101,8 +101,8 @@ pub record FailsToOpenFixed (given : Given) (told : Bool) (leaves : Leaves) : Ty
   pub made_at_most : told ≡ true → IsMigratedAtMost (Ok card) leaves.held
   pub counted : IsUnplanned given.meter leaves.meter
 
--- The memory was formatted with the card of the run, and then a card was found that can't be opened: no memory that tells its bytes does so. Its
--- device counted no fault and was given no plan.
+-- What the memory holds could not be opened, and it tells no bytes: one that tells them never ends so. The card of the run is known. What was
+-- written or read back, and the number that the last line gives, are not. The device counted no fault and was given no plan.
 pub record RefusesFixed (given : Given) (told : Bool) (leaves : Leaves) : Type 0 where
   pub untold : told ≡ false
   pub card : Persistent

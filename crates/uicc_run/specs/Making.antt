@@ -1,8 +1,7 @@
 -- What the functions inside a run say of it, from the words to the lines after `start`. A whole run is told without it.
-use Rattle.std.specs.Prelude.{◌≡◌, ◌≢◌, ◌⊎◌, ◌≤◌, ℕ, Bool, true, List, [], ◌++◌, length, Option, Some, None, Result, Ok, Err, IfSome, is_some}
+use Rattle.std.specs.Prelude.{◌≡◌, ◌≢◌, ◌⊎◌, ◌≤◌, ℕ, Bool, true, List, [], length, Option, Some, None, Result, Ok, Err, IfSome, is_some}
 use Rattle.uicc_types.specs.Counts.{Meter, Caused, CountsFailure, Rose}
 use Rattle.uicc_types.specs.Told.{Becomes}
-use Rattle.byte_streams.specs.Lines.{LineList, lines}
 use Rattle.byte_streams.specs.declared.streams.Sink.{Ghosts as SinkWords}
 use Rattle.byte_streams.specs.declared.streams.Source.{Ghosts as SourceWords}
 use Rattle.script_form.specs.declared.lines.ScriptLine.{ScriptLine}
@@ -20,18 +19,18 @@ use Rattle.card_model.specs.Counts.{IsCounted}
 use Rattle.card_core.specs.declared.opening_faults.OpenFault.{OpenFault}
 use Rattle.card_core.specs.declared.opening_faults.OpenFault.TheVariants as fault
 use Rattle.command_line.specs.Model.{AskForRun}
-use Rattle.section_lines.specs.SectionReading.{AtStart, EndsInSection}
+use Rattle.section_lines.specs.SectionReading.{AtStart}
 use Rattle.long_runs.specs.declared.counts.Counts.{Counts}
-use Rattle.phone_runs.specs.declared.counting.MemoryFailed.{MemoryFailed}
+use Rattle.run_steps.specs.declared.steps.MemoryFailed.{MemoryFailed}
 use Rattle.uicc_run.specs.Endings.{HasFailed, IsEarly, IsUnopened, KeepsBytes, status_for}
 use Rattle.uicc_run.specs.Opening.{is_handset}
-use Rattle.uicc_run.specs.Loading.{AskToLoad, ComesToLoad, HoldsFixed, LoadsFrom}
-use Rattle.uicc_run.specs.Playing.{AreReadInPlace, Leaves, Given, IsOpened, StopsPlaying}
+use Rattle.uicc_run.specs.Loading.{ComesToLoad, HoldsFixed, LoadsFrom}
+use Rattle.uicc_run.specs.Playing.{Leaves, Given, IsOpened}
 use Rattle.uicc_run.specs.Stores.{content_in}
 use Rattle.uicc_run.specs.Terminals.{ComesToBip}
 use Rattle.uicc_run.specs.Worlds.{World, left_in}
 use Rattle.uicc_run.specs.declared.endings.Ending.{Ending}
-use Rattle.uicc_run.specs.declared.endings.Ending.TheVariants.{Usage, NoMemory, Section, FormatFailed, EepromFailed, NotACard, NoApplet, Played, Counted, LoadFailed}
+use Rattle.uicc_run.specs.declared.endings.Ending.TheVariants.{Usage, NoMemory, FormatFailed, EepromFailed, NotACard, NoApplet, Played, Counted, LoadFailed}
 use Rattle.uicc_run.specs.declared.listeners.Listener.{Listener}
 
 -- over a store: the bytes are those that it stands for
@@ -79,7 +78,7 @@ pub record StandsReady (given : Given) (section : List ScriptLine) (card : Optio
 pub record IsMade (given : Given) (told : Bool) (script : ScriptReader) (left taken : Option (List ℕ)) (memory : Option (Result Persistent ℕ)) (meter : Meter) (boxes : List (Option AppletState)) : Type 0 where
   pub card : Option Persistent
   pub at : AtStart given.boxes given.first given.text script left card
-  pub taken_is : taken ≡ Some given.before
+  pub taken_is : taken ≡ given.before
   pub counted : IsCounted given.meter meter [] []
   pub boxes_are : boxes ≡ given.boxes
   pub known : told ≡ true → StandsReady given at.section card memory
@@ -96,42 +95,6 @@ ending_for (fault.NoBox shelf) = NoApplet shelf
 ending_for fault.Failed = EepromFailed
 ending_for fault.PowerLost = EepromFailed
 ending_for fault.Memory = NoMemory
-
--- ---- which lines are read, whatever the memory and the sink tell
-
--- `start` was read
-pub record HasStarted (given : Given) : Type 0 where
-  pub found : LineList
-  pub more : LineList
-  pub section : List ScriptLine
-  pub card : Option Persistent
-  pub parted : lines given.text ≡ found ++ more
-  pub lines_are : AreReadInPlace given found section [] card
-
--- no more lines were read after it, for this cause
-pub record EndsBehind (given : Given) (left : Option (List ℕ)) (end : PlayEnd) : Type 0 where
-  pub found : LineList
-  pub section : List ScriptLine
-  pub played : List ScriptLine
-  pub card : Option Persistent
-  pub lines_are : AreReadInPlace given found section played card
-  pub cause : StopsPlaying given found left end
-
--- the same by each end after `start`; where the sink failed, or the memory in a reset, nothing is said
-abbrev pub ReadsBehind : Given → Option (List ℕ) → PlayEnd → Type 0
-ReadsBehind given left play.SinkFailed = Unit {0}
-ReadsBehind given left play.ResetFailed = Unit {0}
-ReadsBehind given left end = EndsBehind given left end
-
--- what a run reads of its script by its end; where the memory fails, or there is none to begin with, nothing is said of it
-abbrev pub ReadsTo : Given → Option (List ℕ) → Ending → Type 0
-ReadsTo given left (Section fault) = EndsInSection given.boxes given.first given.text left fault
-ReadsTo given left (NotACard at) = HasStarted given
-ReadsTo given left (NoApplet shelf) = HasStarted given
-ReadsTo given left (Played end) = ReadsBehind given left end
-ReadsTo given left (Counted lines counts) = ⊥
-ReadsTo given left LoadFailed = ⊥
-ReadsTo given left ending = Unit {0}
 
 -- ---- over any memory
 
@@ -178,14 +141,14 @@ pub record EndsLoad (ending : Ending) (memory memory_then : Meter) (MemoryIsSame
   pub boxes : IsUnopened ending → BoxesAreSame
   pub memory_cause : status_for ending ≡ 6 → HasFailed memory memory_then
 
--- A long run before its last line: it writes nothing and reads nothing. Where there was no memory for the rest of it, the device is as it was,
--- or holds just the card of such a run.
-pub record LoadsUntold (words : List (List ℕ)) (ending : Ending) (before after : World) (ScriptIsSame TraceIsSame MemoryIsSame : Type 0) : Type 0 where
-  pub load : (given : Given) (told : Bool) (start count : ℕ) (taken : Option (List ℕ)) → LoadsFrom given told start count words before
+-- A long run of so many lines from this number, before its last line: it writes nothing and reads nothing. Where there was no memory for the
+-- rest of it, the device is as it was, or the memory, if it tells its bytes, holds just the card of such a run.
+pub record LoadsUntold (words : List (List ℕ)) (start count : ℕ) (ending : Ending) (before after : World) (ScriptIsSame TraceIsSame MemoryIsSame : Type 0) : Type 0 where
+  pub comes : (given : Given) (told : Bool) (taken : Option (List ℕ)) → LoadsFrom given told start count words before
       → ComesToLoad given told start count ending (record (left_in given.pages after) { taken = taken })
-  pub load_unwritten : (start count : ℕ) → AskToLoad words start count → TraceIsSame
-  pub load_unread : (start count : ℕ) → AskToLoad words start count → ScriptIsSame
-  pub load_no_memory : (given : Given) (told : Bool) (start count : ℕ) → LoadsFrom given told start count words before → ending ≡ NoMemory
+  pub unwritten : TraceIsSame
+  pub unread : ScriptIsSame
+  pub no_memory : (given : Given) (told : Bool) → LoadsFrom given told start count words before → ending ≡ NoMemory
       → MemoryIsSame ⊎ HoldsFixed given (content_in given.pages after.contents)
 
 -- the same of a store with this mark, by the card that was described, if one was

@@ -45,7 +45,7 @@ ReadsForCard asked = Unit {0}
 -- What a run is given beside the script, read off the sink, the memory, its device and the boxes; of what the memory holds where it tells
 -- its bytes.
 pub record IsGiven (given : Given) (told : Bool) (taken : Option (List ℕ)) (memory : Option (Result Persistent ℕ)) (meter : Meter) (boxes : List (Option AppletState)) : Type 0 where
-  pub before_is : taken ≡ Some given.before
+  pub before_is : taken ≡ given.before
   pub memory_is : told ≡ true → memory ≡ Some given.memory
   pub meter_is : meter ≡ given.meter
   pub boxes_are : boxes ≡ given.boxes
@@ -58,13 +58,8 @@ pub record IsAskedFor (given : Given) (asked : Request) : Type 0 where
   pub store_is : given.pages ≡ asked.devices.pages
   pub served_is : given.is_served ≡ is_served_by asked.mode
 
--- A run is given this text and these boxes, and is the one that its words ask for. Nothing is said of its sink and its memory.
-pub record IsToRead (given : Given) (words : List (List ℕ)) (before : World) : Type 0 where
-  pub text_is : before.left ≡ Some given.text
-  pub boxes_are : before.boxes ≡ given.boxes
-  pub is_asked : (asked : Request) → IsRequest words asked → IsAskedFor given asked
-
--- It is given the rest too: over a memory that tells its bytes, or over any.
+-- A run is given this text and the rest, and is the one that its words ask for: over a memory that tells its bytes, or over any.
 pub record RunsFrom (given : Given) (told : Bool) (words : List (List ℕ)) (before : World) : Type 0 where
-  pub reads : IsToRead given words before
+  pub text_is : before.left ≡ Some given.text
   pub others_are : IsGiven given told before.taken (memory_in given.pages before.contents) before.meter before.boxes
+  pub is_asked : (asked : Request) → IsRequest words asked → IsAskedFor given asked

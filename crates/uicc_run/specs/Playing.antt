@@ -1,4 +1,5 @@
 -- What a run is given and leaves, and how its lines after `start` end, be they for the card or for a handset that serves it.
+use Rattle.std.specs.Io.KnownBytes.{append_known}
 use Rattle.std.specs.List.{AllPass}
 use Rattle.std.specs.Prelude.{◌≡◌, ℕ, Bool, true, List, [], ◌∷◌, ◌++◌, Option, Some, None, Result, Ok, ◌⊎◌, false}
 use Rattle.uicc_types.specs.Counts.{Meter}
@@ -32,13 +33,13 @@ use Rattle.phone_runs.specs.Runs.{Beginning}
 use Rattle.uicc_run.specs.Accounts.{Account, AreTold, BreaksOffDeed, Deed, ShowsAsMany, Takes}
 use Rattle.uicc_run.specs.Steps.{deeds, deeds_of, may_stand}
 
--- What a run is given: the text of the script, what the sink has taken already, whether its store is the one whose pages move,
+-- What a run is given: the text of the script, what the sink has taken already, where it tells that, whether its store is the one whose pages move,
 -- the counts of the memory's device, what the memory stands for or the place of the first check that fails in it, the minds in
 -- the boxes, the card that a section is added to: that with the MF alone, or none where a card is opened; and whether the lines
 -- after `start` go to a handset.
 pub record Given : Type 0 where
   pub text : List ℕ
-  pub before : List ℕ
+  pub before : Option (List ℕ)
   pub pages : Bool
   pub meter : Meter
   pub memory : Result Persistent ℕ
@@ -126,7 +127,7 @@ pub record CardLeaves (machine : Machine) (own : List TraceItem) (now : Leaves) 
 pub record EndsSo (given : Given) (first : CardView) (left : Option (List ℕ)) (end : PlayEnd) (now : Leaves) : Type 0 where
   pub done : CarriedOut given first
   pub cause : StopsPlaying given done.found left end
-  pub written : now.taken ≡ Some (given.before ++ text_of done.account.shown)
+  pub written : now.taken ≡ append_known given.before (text_of done.account.shown)
   pub counted : IsCounted given.meter now.meter (plan_given done.account.steps) done.account.own
   pub leaves : Known (λ machine. CardLeaves machine done.account.own now) (λ on. Unit {0}) done.card
 
@@ -154,7 +155,7 @@ pub record BreaksSo (given : Given) (first : CardView) (now : Leaves) : Type 0 w
   pub shows : ShowsAsMany (at.done.account.own ++ own) (at.done.account.shown ++ pending)
   pub cut_off : IsCutOff pending front
   pub stands : Holds card now.held
-  pub written : now.taken ≡ Some (given.before ++ text_of at.done.account.shown ++ front)
+  pub written : now.taken ≡ append_known given.before (text_of at.done.account.shown ++ front)
   pub counted : IsCounted given.meter now.meter (plan_given at.done.account.steps ++ set) (at.done.account.own ++ own)
 
 -- The memory failed in the reset that the next line of the script asks for: the sink has taken all that the lines before show, and then the
@@ -171,7 +172,7 @@ pub record FailsSo (given : Given) (first : CardView) (now : Leaves) : Type 0 wh
   pub counted_in_it : IsCounted before_it now.meter (armed_after (waiting_after NONE at.done.account.steps) (step.Reset ∷ [])) last
   pub of_card : IsRunOf first (at.done.account.steps ++ step.Reset ∷ []) (at.done.account.own ++ last) card
   pub stands : Holds card now.held
-  pub written : now.taken ≡ Some (given.before ++ text_of (at.done.account.shown ++ last))
+  pub written : now.taken ≡ append_known given.before (text_of (at.done.account.shown ++ last))
   pub counted : IsCounted given.meter now.meter (plan_given (at.done.account.steps ++ step.Reset ∷ [])) (at.done.account.own ++ last)
 
 -- by each end

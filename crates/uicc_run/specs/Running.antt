@@ -12,7 +12,7 @@ use Rattle.uicc_run.specs.Causes.{IsCaused, IsLoadCaused}
 use Rattle.uicc_run.specs.Endings.{HasFailed}
 use Rattle.uicc_run.specs.Headline.{Closes, Traces, last_text}
 use Rattle.uicc_run.specs.Loading.{AskToLoad, IsFixedCard, LoadsFrom, TracesLoad}
-use Rattle.uicc_run.specs.Opening.{IsToRead, RunsFrom}
+use Rattle.uicc_run.specs.Opening.{RunsFrom}
 use Rattle.uicc_run.specs.Playing.{Given}
 use Rattle.uicc_run.specs.Scripts.{CanOpen, HoldsDescribed, IsFirstBad, IsFirstTooMuch, IsGoodScript, IsUndisturbed, MeetsBad, ReachesStart, Refusal, RefusesAndTells, StopsAndTells, StopsAtStart, StopsBehind, TellsNext, TellsWhy}
 use Rattle.uicc_run.specs.Stores.{content_in}
@@ -23,10 +23,10 @@ use Rattle.uicc_run.specs.declared.endings.Ending.TheVariants.{Usage, EepromFail
 -- ---- which scripts end with which status
 
 -- By the script alone, over any memory and any sink. Where neither the source nor the sink failed and the run doesn't end for its memory: a
--- good script ends with 0; another one with 2 for its first bad line, or with 8 for the first for which there is no room, and the trace then
--- ends with its number; or either for want of memory, with 5; or, where `start` comes after good lines, with 7, of which no more is known by the
--- script alone. Status 0 comes only for a good script, which is read to its end then; 2 and 8 only so; and 7 only where `start` comes after
--- good lines.
+-- good script ends with 0; another one with 2 for its first bad line, or with 8 for the first for which there is no room, and the trace of a
+-- sink that tells what it has taken then ends with its number; or either for want of memory, with 5; or, where `start` comes after good lines,
+-- with 7, of which no more is known by the script alone. Status 0 comes only for a good script, which is read to its end then; 2 and 8 only so;
+-- and 7 only where `start` comes after good lines.
 pub record EndsByScript (given : Given) (words : List (List ℕ)) (seen : Seen) : Type 0 where
   pub good_over_any : AskForRun words → IsUndisturbed seen → IsGoodScript given → (seen.status ≡ 0) ⊎ (seen.status ≡ 5) ⊎ (seen.status ≡ 7)
   pub bad_over_any : AskForRun words → IsUndisturbed seen → (found : LineList) → IsFirstBad given found
@@ -73,7 +73,7 @@ pub record RefusesWords (words : List (List ℕ)) (status : ℕ) (before after :
   pub usage_only : status ≡ 1 → AskForRun words → ⊥
 
 -- Why each status comes. With 6 and more than its last line, as in a reset, a fault was counted: a loss of power is none. A sink that tells
--- what it has taken goes on telling it.
+-- what it has taken goes on telling it, and one that doesn't never does.
 pub record HasCauses (status : ℕ) (before after : World) : Type 0 where
   pub statuses : status ≤ 8
   pub source_failed : CountsFailure before.source after.source (status ≡ 3)
@@ -85,11 +85,11 @@ pub record HasCauses (status : ℕ) (before after : World) : Type 0 where
 
 -- ---- the three parts of what `run` owes
 
--- What was carried out, and what the sink has of it. Of a script for a card, be it made, opened or served by a handset, where script and sink
--- tell their bytes: where the memory does too, the trace is that of the abstract card, and the memory holds at the end what that card does; over
--- a memory that tells none, as an image, it shows what the card's power allows. A long run comes to the counts of a trace that its lines have
--- on its card, or, over a memory that tells nothing, of one that they have on a card with power. Where the script tells its bytes: of the
--- channels of a terminal the trace is that of the script's lines, and on each channel the card got the first of the bytes that it gave, in
+-- What was carried out, and what the sink has of it, where it tells that. Of a script for a card that tells its bytes, be the card made, opened
+-- or served by a handset: where the memory tells its bytes too, the trace is that of the abstract card, and the memory holds at the end what that
+-- card does; over a memory that tells none, as an image, it shows what the card's power allows. A long run comes to the counts of a trace that
+-- its lines have on its card, or, over a memory that tells nothing, of one that they have on a card with power. Where the script tells its bytes:
+-- of the channels of a terminal the trace is that of the script's lines, and on each channel the card got the first of the bytes that it gave, in
 -- order.
 pub record HasTraces (words : List (List ℕ)) (status : ℕ) (before after : World) (MemoryIsSame BoxesAreSame : Type 0) : Type 0 where
   pub trace : (given : Given) (told : Bool) → RunsFrom given told words before
@@ -98,10 +98,10 @@ pub record HasTraces (words : List (List ℕ)) (status : ℕ) (before after : Wo
       → TracesLoad given told start count before.taken (left_in given.pages after) status (IsLoadCaused given before after MemoryIsSame BoxesAreSame)
   pub bip : (text : List ℕ) → AskForBip words → before.left ≡ Some text → TracesBip text before.taken (seen status before after)
 
--- Which scripts end with which status: over any memory and any sink, and by what the memory holds, where both tell their bytes. That words in
--- no form end with 1; and why 3, 4 and 6 come.
+-- Which scripts end with which status, over any sink: over any memory, and by what the memory holds, where it tells its bytes. That words in no
+-- form end with 1; and why 3, 4 and 6 come.
 pub record HasStatuses (words : List (List ℕ)) (status : ℕ) (before after : World) : Type 0 where
-  pub script : (given : Given) → IsToRead given words before → EndsByScript given words (seen status before after)
+  pub script : (given : Given) → RunsFrom given false words before → EndsByScript given words (seen status before after)
   pub card : (given : Given) → RunsFrom given true words before → EndsByCard given words (seen status before after)
   pub usage : RefusesWords words status before after
   pub load : LoadsToEnd words status before after
@@ -110,15 +110,15 @@ pub record HasStatuses (words : List (List ℕ)) (status : ℕ) (before after : 
 
 -- What stays. The memory does where the words are in no form or there is no room for what a line describes, and for the channels of a
 -- terminal, where the boxes do too. The script does where the words are in no form and in a long run; else at most 16,777,217 bytes of it are
--- taken. Where there was no memory to be had for `play` or `phone`, the device is as it was, or it was formatted and holds just the card of
--- the script.
+-- taken. Where there was no memory to be had for `play` or `phone`, the device is as it was, or `start` came after good lines that describe a
+-- card, and a memory that tells its bytes holds just that card.
 pub record LeavesTheRest (words : List (List ℕ)) (status : ℕ) (before after : World) (ScriptIsSame MemoryIsSame BoxesAreSame : Type 0) : Type 0 where
   pub untouched : (status ≡ 1) ⊎ (status ≡ 8) → MemoryIsSame
   pub bip_untouched : AskForBip words → MemoryIsSame × BoxesAreSame
   pub unread : (AskForRun words → ⊥) → ScriptIsSame
   pub load_unread : (start count : ℕ) → AskToLoad words start count → ScriptIsSame
   pub taken : (text : List ℕ) → before.left ≡ Some text → IsTaken (MOST_BYTES + 1) text after.left
-  pub no_memory : (given : Given) → IsToRead given words before → is_some given.first ≡ true → status ≡ 5
+  pub no_memory : (given : Given) → RunsFrom given false words before → is_some given.first ≡ true → status ≡ 5
       → MemoryIsSame ⊎ HoldsDescribed given (content_in given.pages after.contents)
 
 -- What a run owes its caller by its words, its status, and what is seen of it before and after it: what was carried out, and what the sink has

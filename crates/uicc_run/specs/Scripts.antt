@@ -1,4 +1,5 @@
 -- Which scripts are carried out to their end, and after which lines the others stop.
+use Rattle.std.specs.Io.KnownBytes.{append_known}
 use Rattle.std.specs.List.{AllPass}
 use Rattle.std.specs.Prelude.{◌≡◌, ◌⊎◌, ℕ, ◌+◌, List, [], ◌∷◌, ◌++◌, All, length, Option, Some, None, IfSome, Ok, Err}
 use Rattle.uicc_types.specs.Counts.{Rose}
@@ -114,7 +115,7 @@ pub record StopsAtStart (given : Given) (why : Refusal) : Type 0 where
 
 -- nothing was shown but the last line, which says why
 abbrev pub TellsWhy : Given → Refusal → Option (List ℕ) → Type 0
-TellsWhy given why taken = taken ≡ Some (given.before ++ trace_text (refusal_line why))
+TellsWhy given why taken = taken ≡ append_known given.before (trace_text (refusal_line why))
 
 -- the run stopped at `start`, and told why
 pub record RefusesAndTells (given : Given) (taken : Option (List ℕ)) : Type 0 where
@@ -149,7 +150,8 @@ pub record IsUndisturbed (seen : Seen) : Type 0 where
 abbrev pub TellsNext : LineList → Option (List ℕ) → Type 0
 TellsNext found taken = IfSome taken (λ text. (front : List ℕ) × (text ≡ front ++ trace_text (line.Line (length found + 1))))
 
--- The run stopped at a line that is so, and told its number. It took no more of the text than it needs to know that line.
+-- The run stopped at a line that is so, and told its number, which is seen where the sink tells what it has taken. It took no more of the text
+-- than it needs to know that line.
 pub record StopsAndTells (IsAt : LineList → Type 0) (text : List ℕ) (left taken : Option (List ℕ)) : Type 0 where
   pub found : LineList
   pub is : IsAt found

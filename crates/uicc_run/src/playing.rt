@@ -3,7 +3,6 @@ ghost use Rattle.std.specs.Prelude.{◌≡◌, ◌<◌, List, ℕ, None, Err, On
 ghost use Rattle.uicc_types.specs.Counts.{raised};
 ghost use Rattle.byte_streams.specs.Reading.{IsWithin};
 ghost use Rattle.script_form.specs.declared.lines.ScriptLine.{ScriptLine as AnyLine};
-ghost use Rattle.script_reader.specs.Behind.{GivesRead, IsReading, LinesReadTo};
 ghost use Rattle.script_reader.specs.Reading.{reading, room_of};
 ghost use Rattle.run_steps.specs.Ends.{moment_at};
 ghost use Rattle.run_steps.specs.Moves.{step_of};
@@ -17,7 +16,6 @@ ghost use Rattle.uicc_run.specs.Accounts.{kept_behind};
 ghost use Rattle.uicc_run.specs.Opening.{is_handset};
 ghost use Rattle.uicc_run.specs.Playing.{CardComesTo, Given, left_at};
 ghost use Rattle.uicc_run.specs.BetweenLines.{GivesPlayed, IsPlaying};
-ghost use Rattle.uicc_run.specs.Steps.{may_follow, may_stand};
 
 use crate::effects::{Effect, effect_of};
 use crate::listeners::Listener;
@@ -54,10 +52,6 @@ pub(crate) fn play_lines<S: Store, B: Applet, R: Source, W: Sink>(
         → IsServing text opening given script.old (R.left source.old) phone.old
         (moment_at card.old (W.taken trace.old))
         → PhoneComesTo text opening given (R.left source.new) result (moment_at card.new (W.taken trace.new)) }
-    // Over any memory: which lines were read and why no more of them.
-    ensures reads { (text : List ℕ) (opening : List AnyLine)
-        → IsReading (may_stand (is_handset listener)) opening text script.old (R.left source.old)
-        → LinesReadTo (may_stand (is_handset listener)) opening text (R.left source.new) result }
     ensures within { (text : List ℕ) → IsWithin text (reading script.old) (R.left source.old)
         → IsWithin text (reading script.new) (R.left source.new) }
     ensures tallies { TalliesLines (tally W.Sink card.old trace.old) (tally W.Sink card.new trace.new)
@@ -108,9 +102,6 @@ fn play_line<S: Store, B: Applet, R: Source, W: Sink>(
         → IsPlaying given first script.old (R.left source.old) link.old (moment_at card.old (W.taken trace.old))
         → GivesPlayed given first script.new (R.left source.new) link.new
         (moment_at card.new (W.taken trace.new)) result }
-    ensures reads { (text : List ℕ) (opening : List AnyLine)
-        → IsReading may_follow opening text script.old (R.left source.old)
-        → GivesRead may_follow opening text script.new (R.left source.new) result }
     ensures within { (text : List ℕ) → IsWithin text (reading script.old) (R.left source.old)
         → IsWithin text (reading script.new) (R.left source.new) }
     ensures failed { result ≡ Err PlayEnd.ResetFailed

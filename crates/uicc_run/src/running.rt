@@ -4,8 +4,6 @@ ghost use Rattle.uicc_types.specs.Counts.{Rose};
 ghost use Rattle.uicc_types.specs.Told.{Becomes};
 ghost use Rattle.byte_streams.specs.Reading.{IsTaken, IsWithin};
 ghost use Rattle.byte_streams.specs.declared.limits.TheConstants.{MOST_BYTES};
-ghost use Rattle.script_form.specs.declared.lines.ScriptLine.{ScriptLine as AnyLine};
-ghost use Rattle.script_reader.specs.Behind.{IsReading, LinesReadTo};
 ghost use Rattle.script_reader.specs.Reading.{reading};
 ghost use Rattle.card_state.specs.Places.{memory_size};
 ghost use Rattle.card_state.specs.Standing.{stands_for};
@@ -17,16 +15,16 @@ ghost use Rattle.run_steps.specs.Ends.{moment_at};
 ghost use Rattle.run_steps.specs.Tallies.{tally};
 ghost use Rattle.run_steps.specs.Views.{CardView};
 ghost use Rattle.phone_runs.specs.LineTallies.{TalliesLines};
-ghost use Rattle.uicc_run.specs.Making.{EndsFor, FitsStore, KeepsOpened, KeepsCardThere, KeepsStoreForm, LoadsUntold, ReadsTo, RefusesAtFirst, IsMade, IsToPlay, ending_for, makes, left_of, stored, ServesBip};
+ghost use Rattle.uicc_run.specs.Making.{EndsFor, FitsStore, KeepsOpened, KeepsCardThere, KeepsStoreForm, LoadsUntold, RefusesAtFirst, IsMade, IsToPlay, ending_for, makes, left_of, stored, ServesBip};
 ghost use Rattle.uicc_run.specs.Causes.{FitsRun, KeepsMemory};
 ghost use Rattle.uicc_run.specs.Endings.{HasFailed, status_for};
 ghost use Rattle.uicc_run.specs.Headline.{Closes, Comes};
-ghost use Rattle.uicc_run.specs.Opening.{is_handset, IsGiven, IsToRead, RunsFrom};
+ghost use Rattle.uicc_run.specs.Loading.{AskToLoad};
+ghost use Rattle.uicc_run.specs.Opening.{is_handset, IsGiven, RunsFrom};
 ghost use Rattle.uicc_run.specs.BetweenLines.{IsStarted};
 ghost use Rattle.uicc_run.specs.Playing.{Given, left_at, ComesTo};
 ghost use Rattle.uicc_run.specs.Running.{RunsAsAsked};
 ghost use Rattle.uicc_run.specs.Worlds.{left_in, world};
-ghost use Rattle.uicc_run.specs.Steps.{may_stand};
 ghost use Rattle.uicc_run.specs.Stores.{memory_in, size_of};
 ghost use Rattle.uicc_run.specs.Terminals.{AskForBip};
 
@@ -90,14 +88,11 @@ fn carry_out<R: Source, W: Sink, E: Eeprom, B: Applet>(
         (world R.Source W.Sink E.Eeprom B.Applet script.old trace.old eeprom cast.items)
         → Comes given told (R.left script.new) result.0 (left_in given.pages
         (world R.Source W.Sink E.Eeprom B.Applet script.new trace.new result.1 result.2.items)) }
-    // Over any memory and any sink: which lines of the script were read, and why no more of them.
-    ensures reads { (given : Given) → IsToRead given (map string_bytes words.now)
-        (world R.Source W.Sink E.Eeprom B.Applet script.old trace.old eeprom cast.items)
-        → ReadsTo given (R.left script.new) result.0 }
     // No more than 16,777,217 bytes of the script are taken.
     ensures taken { (text : List ℕ) → R.left script.old ≡ Some text
         → IsTaken (MOST_BYTES + 1) text (R.left script.new) }
-    ensures load { LoadsUntold (map string_bytes words.now) result.0
+    ensures load { (start count : ℕ) → AskToLoad (map string_bytes words.now) start count
+        → LoadsUntold (map string_bytes words.now) start count result.0
         (world R.Source W.Sink E.Eeprom B.Applet script.old trace.old eeprom cast.items)
         (world R.Source W.Sink E.Eeprom B.Applet script.new trace.new result.1 result.2.items)
         (script.new ≡ script.old) (trace.new ≡ trace.old) (result.1 ≡ eeprom) }
@@ -107,7 +102,7 @@ fn carry_out<R: Source, W: Sink, E: Eeprom, B: Applet>(
         (result.1 ≡ eeprom) (result.2.items ≡ cast.items) result.0 }
     ensures usage { RefusesAtFirst (map string_bytes words.now) result.0
         (script.new ≡ script.old) (trace.new ≡ trace.old) }
-    ensures memory { (given : Given) → IsToRead given (map string_bytes words.now)
+    ensures memory { (given : Given) (told : Bool) → RunsFrom given told (map string_bytes words.now)
         (world R.Source W.Sink E.Eeprom B.Applet script.old trace.old eeprom cast.items)
         → KeepsMemory given result.0
         (world R.Source W.Sink E.Eeprom B.Applet script.old trace.old eeprom cast.items)
@@ -159,10 +154,6 @@ fn read_and_play<R: Source, W: Sink, E: Eeprom, B: Applet>(
         (minds_of B.mind cast.items)
         → Comes given told (R.left script.new) result.0 (left_in given.pages
         (world R.Source W.Sink E.Eeprom B.Applet script.new trace.new result.1 result.2.items)) }
-    // Over any memory and any sink.
-    ensures reads { (given : Given) → IsToPlay given listener pages card
-        (world R.Source W.Sink E.Eeprom B.Applet script.old trace.old eeprom cast.items)
-        → ReadsTo given (R.left script.new) result.0 }
     ensures taken { (text : List ℕ) → R.left script.old ≡ Some text
         → IsTaken (MOST_BYTES + 1) text (R.left script.new) }
     ensures used { result.0 ≢ Ending.Usage }
@@ -230,9 +221,6 @@ fn make_and_play<S: Store, R: Source, W: Sink, B: Applet>(
         → AtStart given.boxes given.first given.text reader.old (R.left script.old) card.now
         → Comes given told (R.left script.new) result.0 (left_of (S.store_mark result.1)
         (stored R.Source W.Sink S.Store B.Applet script.new trace.new result.1 result.2.items)) }
-    ensures reads { (given : Given) (described : Option Persistent) → given.is_served ≡ is_handset listener
-        → AtStart given.boxes given.first given.text reader.old (R.left script.old) described
-        → ReadsTo given (R.left script.new) result.0 }
     ensures within { (text : List ℕ) → IsWithin text (reading reader.old) (R.left script.old)
         → IsWithin text (reading reader.new) (R.left script.new) }
     ensures memory { KeepsCardThere (S.store_mark store) card.now result.0
@@ -285,9 +273,6 @@ fn open_and_play<S: Store, R: Source, W: Sink, B: Applet>(
         (option_map (stands_for (S.store_mark store)) (S.stable store)) (S.meter store) (minds_of B.mind cast.items)
         → Comes given told (R.left script.new) result.0 (left_of (S.store_mark result.1)
         (stored R.Source W.Sink S.Store B.Applet script.new trace.new result.1 result.2.items)) }
-    ensures reads { (given : Given) (described : Option Persistent) → given.is_served ≡ is_handset listener
-        → AtStart given.boxes given.first given.text reader.old (R.left script.old) described
-        → ReadsTo given (R.left script.new) result.0 }
     ensures within { (text : List ℕ) → IsWithin text (reading reader.old) (R.left script.old)
         → IsWithin text (reading reader.new) (R.left script.new) }
     ensures memory { KeepsOpened (S.store_mark store) result.0
@@ -324,10 +309,6 @@ fn carry_on<S: Store, B: Applet, R: Source, W: Sink>(
     ensures comes { (given : Given) (first : CardView) → given.is_served ≡ is_handset listener
         → IsStarted given first reader.old (R.left script.old) (moment_at card.old (W.taken trace.old))
         → ComesTo given first (R.left script.new) result (left_at (moment_at card.new (W.taken trace.new))) }
-    // Over any memory and any sink: which lines were read and why no more of them.
-    ensures reads { (text : List ℕ) (opening : List AnyLine)
-        → IsReading (may_stand (is_handset listener)) opening text reader.old (R.left script.old)
-        → LinesReadTo (may_stand (is_handset listener)) opening text (R.left script.new) result }
     ensures within { (text : List ℕ) → IsWithin text (reading reader.old) (R.left script.old)
         → IsWithin text (reading reader.new) (R.left script.new) }
     ensures tallies { TalliesLines (tally W.Sink card.old trace.old) (tally W.Sink card.new trace.new)

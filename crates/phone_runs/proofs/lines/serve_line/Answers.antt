@@ -1,8 +1,8 @@
 -- A line does nothing, is out of place, or is told the handset: each goes on from the lines served, or says behind which of them it ends.
-use Rattle.script_reader.proofs.BehindLemmas.{bad_behind, ends_reading, reads_on, reads_to_end}
+use Rattle.script_reader.proofs.BehindLemmas.{bad_behind}
 use Rattle.phone_runs.specs.Lines.{may_be_heard}
 use Rattle.phone_runs.specs.Playing.{line_of}
-use Rattle.phone_runs.proofs.LineLemmas.{ends_amid, ends_serving, lines_end, serves_further, serves_on, stops_in_line, unread_amid}
+use Rattle.phone_runs.proofs.LineLemmas.{ends_amid, ends_serving, lines_end, serves_further, serves_on, stops_in_line}
 use Rattle.phone_runs.proofs.lines.serve_line.Goals as goal
 
 pub returns-in-Err-clause-served : goal.returns-in-Err-clause-served
@@ -32,27 +32,3 @@ returns-in-Err-play_on_phone-clause-served g c = λ text opening given serving.
     ends_amid text opening given _ c.in-Err-play_on_phone.end _ _ c.end_of.ensures
     (stops_in_line text opening given _ _ _ (g.R.Source.left c.read_behind.new.source) _ _ _ c.read_behind.new.line (line_of c.in-Takes.act) c.in-Err-play_on_phone.end (λ found follows. c.in-Ok.ensures.gives may_be_heard text found follows) effect.0 effect.1 serving
     (c.in-Err-play_on_phone.ensures.plays given serving.log serving.at))
-
--- ---- over any memory
-
-pub returns-in-Err-clause-reads : goal.returns-in-Err-clause-reads
-returns-in-Err-clause-reads g c = λ text opening reading.
-    reads_to_end may_be_heard opening text _ _ (ends_reading may_be_heard opening text _ _ _ _ (λ found follows. c.in-Err.ensures.gives may_be_heard text found follows) reading)
-
-pub returns-in-Nothing-clause-reads : goal.returns-in-Nothing-clause-reads
-returns-in-Nothing-clause-reads g c = λ text opening reading.
-    let effect = rw c.in-Nothing.is at c.effect_on_phone.ensures.effect in
-    reads_on may_be_heard opening text _ _ _ _ c.read_behind.new.line (λ found follows. c.in-Ok.ensures.gives may_be_heard text found follows) effect.0 reading
-
-pub returns-in-OutOfPlace-clause-reads : goal.returns-in-OutOfPlace-clause-reads
-returns-in-OutOfPlace-clause-reads g c = λ text opening reading.
-    let effect = rw c.in-OutOfPlace.is at c.effect_on_phone.ensures.effect in
-    ends_reading may_be_heard opening text _ _ _ _ (λ found follows. bad_behind may_be_heard text found c.read_behind.new.script _ c.read_behind.new.line _ (c.in-Ok.ensures.gives may_be_heard text found follows) effect c.number.ensures) reading
-
-pub returns-in-Ok-play_on_phone-clause-reads : goal.returns-in-Ok-play_on_phone-clause-reads
-returns-in-Ok-play_on_phone-clause-reads g c = λ text opening reading.
-    let effect = rw c.in-Takes.is at c.effect_on_phone.ensures.effect in
-    reads_on may_be_heard opening text _ _ _ _ c.read_behind.new.line (λ found follows. c.in-Ok.ensures.gives may_be_heard text found follows) effect.0 reading
-
-pub returns-in-Err-play_on_phone-clause-reads : goal.returns-in-Err-play_on_phone-clause-reads
-returns-in-Err-play_on_phone-clause-reads g c = λ text opening reading. unread_amid opening text _ c.in-Err-play_on_phone.end c.end_of.result c.end_of.ensures

@@ -25,7 +25,7 @@ returns-in-Err-PowerLost-clause-takes g c = record {
 
 pub returns-in-Err-Failed-clause-takes : goal.returns-in-Err-Failed-clause-takes
 returns-in-Err-Failed-clause-takes g c = record {
-  resets = λ old is. resets_failed (parts_of g.S.Store g.B.Applet c.args.card.now) (parts_of g.S.Store g.B.Applet c.reset.new.self) old is c.reset.ensures.restarted;
+  resets = λ old is. resets_failed _ (parts_of g.S.Store g.B.Applet c.args.card.now) (parts_of g.S.Store g.B.Applet c.reset.new.self) old is c.reset.ensures.restarted;
   counted = search rules;
   on = search rules;
   off = search rules;

@@ -6,19 +6,19 @@ use Rattle.run_steps.proofs.TakesFrontLemmas.{tells_front, tells_whole}
 use Rattle.run_steps.proofs.steps.exchange.Goals as goal
 
 pub returns-in-Ok-write_reply-clause-gives : goal.returns-in-Ok-write_reply-clause-gives
-returns-in-Ok-write_reply-clause-gives g c = λ old before is told.
-    exchanges_at (Ok c.in-Ok-write_reply.field-0) c.args.apdu.now before old c.args.end.now c.set_plan-is_set.new.self c.send-reply.new.end c.clear_plan.new.self _ _ _ (seen c.send-reply.result c.send-reply.new.answer)
-    c.runs_are_counted.ensures.plans is told (with_plan c.args.end.now c.set_plan-is_set.new.self c.send-reply.new.end c.clear_plan.new.self c.set_plan-is_set.result c.set_plan-is_set.ensures.set c.set_plan-is_set.ensures.is_set c.send-reply.ensures.waits c.clear_plan.ensures) c.in-Ok.ensures.ok c.send-reply.ensures
+returns-in-Ok-write_reply-clause-gives g c = λ old is.
+    exchanges_at (Ok c.in-Ok-write_reply.field-0) c.args.apdu.now old c.args.end.now c.set_plan-is_set.new.self c.send-reply.new.end c.clear_plan.new.self _ _ _ (seen c.send-reply.result c.send-reply.new.answer)
+    c.runs_are_counted.ensures.plans is (with_plan c.args.end.now c.set_plan-is_set.new.self c.send-reply.new.end c.clear_plan.new.self c.set_plan-is_set.result c.set_plan-is_set.ensures.set c.set_plan-is_set.ensures.is_set c.send-reply.ensures.waits c.clear_plan.ensures) c.in-Ok.ensures.ok c.send-reply.ensures
     c.in-Ok-write_reply.ensures.ok c.in-Ok-write_reply.ensures.err c.in-Ok-write_reply.ensures.sink
 
 pub returns-in-Err-write_reply-clause-gives : goal.returns-in-Err-write_reply-clause-gives
-returns-in-Err-write_reply-clause-gives g c = λ old before is told.
-    exchanges_at (Err c.in-Err-write_reply.why) c.args.apdu.now before old c.args.end.now c.set_plan-is_set.new.self c.send-reply.new.end c.clear_plan.new.self _ _ _ (seen c.send-reply.result c.send-reply.new.answer)
-    c.runs_are_counted.ensures.plans is told (with_plan c.args.end.now c.set_plan-is_set.new.self c.send-reply.new.end c.clear_plan.new.self c.set_plan-is_set.result c.set_plan-is_set.ensures.set c.set_plan-is_set.ensures.is_set c.send-reply.ensures.waits c.clear_plan.ensures) c.in-Ok.ensures.ok c.send-reply.ensures
+returns-in-Err-write_reply-clause-gives g c = λ old is.
+    exchanges_at (Err c.in-Err-write_reply.why) c.args.apdu.now old c.args.end.now c.set_plan-is_set.new.self c.send-reply.new.end c.clear_plan.new.self _ _ _ (seen c.send-reply.result c.send-reply.new.answer)
+    c.runs_are_counted.ensures.plans is (with_plan c.args.end.now c.set_plan-is_set.new.self c.send-reply.new.end c.clear_plan.new.self c.set_plan-is_set.result c.set_plan-is_set.ensures.set c.set_plan-is_set.ensures.is_set c.send-reply.ensures.waits c.clear_plan.ensures) c.in-Ok.ensures.ok c.send-reply.ensures
     c.in-Err-write_reply.ensures.ok c.in-Err-write_reply.ensures.err c.in-Err-write_reply.ensures.sink
 
 pub returns-in-Err-clause-gives : goal.returns-in-Err-clause-gives
-returns-in-Err-clause-gives g c = λ old before is told. breaks_command c.args.apdu.now before old c.args.end.now _ _ is told c.in-Err.ensures.err
+returns-in-Err-clause-gives g c = λ old is. breaks_command c.args.apdu.now old c.args.end.now _ _ is c.in-Err.ensures.err
 
 pub returns-in-Ok-write_reply-clause-tallies : goal.returns-in-Ok-write_reply-clause-tallies
 returns-in-Ok-write_reply-clause-tallies g c = record {

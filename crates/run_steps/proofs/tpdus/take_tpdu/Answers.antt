@@ -6,18 +6,18 @@ use Rattle.run_steps.proofs.TakesFrontLemmas.{tells_front, tells_whole}
 use Rattle.run_steps.proofs.tpdus.take_tpdu.Goals as goal
 
 pub returns-in-Ok-write_reply-clause-gives : goal.returns-in-Ok-write_reply-clause-gives
-returns-in-Ok-write_reply-clause-gives g c = λ old before is told.
-    takes c.args.tpdu.now before old (link_answer c.args.link.now c.args.tpdu.now) c.args.link.now c.deliver-reply.new.link c.args.end.now c.deliver-reply.new.end _ _ _ _ told
+returns-in-Ok-write_reply-clause-gives g c = λ old is.
+    takes c.args.tpdu.now old (link_answer c.args.link.now c.args.tpdu.now) c.args.link.now c.deliver-reply.new.link c.args.end.now c.deliver-reply.new.end _ _ _ _
     (c.deliver-reply.ensures.delivers old is) c.in-Ok.ensures.ok c.in-Ok-write_reply.ensures.ok
 
 pub returns-in-Err-write_reply-clause-gives : goal.returns-in-Err-write_reply-clause-gives
-returns-in-Err-write_reply-clause-gives g c = λ old before is told.
-    breaks_reply c.args.tpdu.now before old (link_answer c.args.link.now c.args.tpdu.now) c.args.link.now c.deliver-reply.new.link c.args.end.now c.deliver-reply.new.end _ _ _ _ told
+returns-in-Err-write_reply-clause-gives g c = λ old is.
+    breaks_reply c.args.tpdu.now old (link_answer c.args.link.now c.args.tpdu.now) c.args.link.now c.deliver-reply.new.link c.args.end.now c.deliver-reply.new.end _ _ _ _
     (c.deliver-reply.ensures.delivers old is) c.in-Ok.ensures.ok c.in-Err-write_reply.ensures.err
 
 pub returns-in-Err-clause-gives : goal.returns-in-Err-clause-gives
-returns-in-Err-clause-gives g c = λ old before is told.
-    breaks_tpdu c.args.tpdu.now before old (link_answer c.args.link.now c.args.tpdu.now) c.args.link.now c.args.end.now _ _ is told c.in-Err.ensures.err
+returns-in-Err-clause-gives g c = λ old is.
+    breaks_tpdu c.args.tpdu.now old (link_answer c.args.link.now c.args.tpdu.now) c.args.link.now c.args.end.now _ _ is c.in-Err.ensures.err
 
 pub returns-in-Ok-write_reply-clause-tallies : goal.returns-in-Ok-write_reply-clause-tallies
 returns-in-Ok-write_reply-clause-tallies g c = record {

@@ -31,7 +31,7 @@ pub returns-in-None-clause-trace : goal.returns-in-None-clause-trace
 returns-in-None-clause-trace g c = λ none given from.
     let over = outside g.R.Source g.W.Sink c.args.script.now c.args.output.now (minds_of g.B.Applet.mind c.args.cast.items) in
     c.play_on_bench.ensures.trace given
-    (subst (λ size. RunsFrom given true (map string_bytes c.args.words.now) (over_bench size over)) (size_given given _ c.args.made _ c.requires.used c.device_size-size.ensures from.reads.is_asked) from)
+    (subst (λ size. RunsFrom given true (map string_bytes c.args.words.now) (over_bench size over)) (size_given given _ c.args.made _ c.requires.used c.device_size-size.ensures from.is_asked) from)
 
 pub returns-in-Some-clause-load : goal.returns-in-Some-clause-load
 returns-in-Some-clause-load g c = λ none. let no_path = c.image_path.ensures.none none in absurd (cc)

@@ -32,14 +32,14 @@ returns-in-Ok-clause-load g c =
 
 pub returns-in-Err-clause-script : goal.returns-in-Err-clause-script
 returns-in-Err-clause-script g c = record {
-  trace = λ given from. no_device _ (g.W.Sink.taken c.args.output.now) given false _ from.others_are.before_is from.reads.text_is c.close.ensures.closed;
+  trace = λ given from. no_device _ (g.W.Sink.taken c.args.output.now) given false _ from.others_are.before_is from.text_is c.close.ensures.closed;
   script = λ given from. ends_without_device _ given _ c.close.ensures.status c.close.ensures.cause.1;
   taken = λ text told. IsTaken-none _ text _ told;
   load = λ given start count from. loads_no_device _ _ given false start count c.close.ensures.status c.close.ensures.cause.1 c.close.ensures.closed;
 }
 
 pub returns-in-Err-clause-trace : goal.returns-in-Err-clause-trace
-returns-in-Err-clause-trace g c = λ given from. has_no_device _ _ given _ c.close.ensures.status c.close.ensures.cause.1 from.others_are.before_is from.reads.text_is c.close.ensures.closed
+returns-in-Err-clause-trace g c = λ given from. has_no_device _ _ given _ c.close.ensures.status c.close.ensures.cause.1 from.others_are.before_is from.text_is c.close.ensures.closed
 
 pub returns-in-Err-clause-load : goal.returns-in-Err-clause-load
 returns-in-Err-clause-load g c = λ given start count from. loads_no_device _ _ given true start count c.close.ensures.status c.close.ensures.cause.1 c.close.ensures.closed

@@ -1,23 +1,27 @@
 -- The device and the boxes are let go: what run says of them is kept of some values, and the rest of its clauses are told without them.
 use Rattle.std.proofs.Common.{true, false, map, string_bytes, ◌∙◌}
+use Rattle.applet_trait.specs.Minds.{minds_of}
 use Rattle.uicc_run.specs.Loading.{LoadsFrom}
 use Rattle.uicc_run.specs.Opening.{RunsFrom}
-use Rattle.uicc_run.specs.Worlds.{world}
+use Rattle.uicc_run.specs.Playing.{Given}
+use Rattle.uicc_run.specs.Worlds.{outside, world}
 use Rattle.uicc_run.proofs.AnsweringLemmas.{gone, load_gone}
 use Rattle.uicc_run.proofs.answering.play_over.Goals as goal
 
 pub returns-clause-script : goal.returns-clause-script
 returns-clause-script g c =
     let over = world g.R.Source g.W.Sink g.E.Eeprom g.B.Applet c.args.script.now c.args.output.now c.args.eeprom c.args.cast.items in
+    let begun = outside g.R.Source g.W.Sink c.args.script.now c.args.output.now (minds_of g.B.Applet.mind c.args.cast.items) in
+    let from : (given : Given) → RunsFrom given false (map string_bytes c.args.words.now) begun → RunsFrom given false (map string_bytes c.args.words.now) over =
+    λ given told. record {
+      text_is = told.text_is;
+      others_are = record { before_is = told.others_are.before_is; memory_is = λ is. absurd (cc); meter_is = c.requires.new ∙ told.others_are.meter_is; boxes_are = told.others_are.boxes_are };
+      is_asked = told.is_asked;
+    } in
     record {
       trace = λ given told.
-          let from : RunsFrom given false (map string_bytes c.args.words.now) over =
-          record {
-            reads = record { text_is = told.reads.text_is; boxes_are = told.reads.boxes_are; is_asked = told.reads.is_asked };
-            others_are = record { before_is = told.others_are.before_is; memory_is = λ is. absurd (cc); meter_is = c.requires.new ∙ told.others_are.meter_is; boxes_are = told.others_are.boxes_are };
-          } in
-          record { held = _; meter = _; boxes = _; trace = gone given _ _ _ false _ from.others_are.meter_is (c.run-status.ensures.traces.trace given false from) };
-      script = λ given told. c.run-status.ensures.statuses.script given (record { text_is = told.text_is; boxes_are = told.boxes_are; is_asked = told.is_asked });
+          record { held = _; meter = _; boxes = _; trace = gone given _ _ _ false _ (from given told).others_are.meter_is (c.run-status.ensures.traces.trace given false (from given told)) };
+      script = λ given told. c.run-status.ensures.statuses.script given (from given told);
       taken = c.run-status.ensures.stays.taken;
       load = λ given start count told.
           let from : LoadsFrom given false start count (map string_bytes c.args.words.now) over =

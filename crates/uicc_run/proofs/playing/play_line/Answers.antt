@@ -1,10 +1,10 @@
 -- A line does nothing, is out of place, or goes to card or link, where reset or sink may fail: each is joined to the lines before it.
 use Rattle.std.proofs.Common.{false}
-use Rattle.script_reader.proofs.BehindLemmas.{bad_behind, ends_reading, reads_on, reads_to_end}
+use Rattle.script_reader.proofs.BehindLemmas.{bad_behind}
 use Rattle.run_steps.specs.Moves.{step_of}
 use Rattle.run_steps.proofs.StandingLemmas.{machine_minds, machine_stands}
 use Rattle.uicc_run.proofs.HasKindsOfLemmas.{machine_kinds}
-use Rattle.uicc_run.specs.Steps.{may_follow, may_stand}
+use Rattle.uicc_run.specs.Steps.{may_stand}
 use Rattle.uicc_run.specs.Accounts.{Takes, Transfers}
 use Rattle.uicc_run.proofs.PlayingLemmas.{breaks_in, comes_to_end, ends_playing, fails_in, plays_further, plays_on, stands_there, step_breaks, step_does, tpdu_breaks, tpdu_does}
 use Rattle.uicc_run.proofs.playing.play_line.Goals as goal
@@ -25,13 +25,13 @@ pub returns-in-Ok-take_step-clause-played : goal.returns-in-Ok-take_step-clause-
 returns-in-Ok-take_step-clause-played g c = λ given first playing.
     plays_further given first _ _ _ _ c.read_behind.new.line (λ found follows. c.in-Ok.ensures.gives (may_stand given.is_served) given.text found follows) c.args.link.now c.drop_kept.new.link _ _ (Takes (step_of c.in-Takes.step)) c.runs_are_counted.ensures.join c.plans_are_set_in_order.ensures
     c.in-Takes.ensures.0 c.in-Takes.ensures.1
-    (λ old before seen told. step_does (step_of c.in-Takes.step) c.args.link.now c.drop_kept.new.link old before _ _ c.drop_kept.ensures (c.in-Ok-take_step.ensures.gives old before seen told)) playing
+    (λ old seen. step_does (step_of c.in-Takes.step) c.args.link.now c.drop_kept.new.link old _ _ c.drop_kept.ensures (c.in-Ok-take_step.ensures.gives old seen)) playing
 
 pub returns-in-Err-SinkFailed-clause-played : goal.returns-in-Err-SinkFailed-clause-played
 returns-in-Err-SinkFailed-clause-played g c = λ given first playing.
     let gives = rw c.in-Err-SinkFailed.field-0-is at c.in-Err-SinkFailed.ensures.gives in
     breaks_in given first _ _ _ (g.R.Source.left c.read_behind.new.source) c.read_behind.new.line (λ found follows. c.in-Ok.ensures.gives (may_stand given.is_served) given.text found follows) c.args.link.now c.drop_kept.new.link _ _ (Takes (step_of c.in-Takes.step)) c.runs_are_counted.ensures.join
-    c.in-Takes.ensures.1 (λ old before seen told. step_breaks (step_of c.in-Takes.step) c.args.link.now c.drop_kept.new.link old before _ _ (gives old before seen told)) playing
+    c.in-Takes.ensures.1 (λ old seen. step_breaks (step_of c.in-Takes.step) c.args.link.now c.drop_kept.new.link old _ _ (gives old seen)) playing
 
 pub returns-in-Err-ResetFailed-clause-played : goal.returns-in-Err-ResetFailed-clause-played
 returns-in-Err-ResetFailed-clause-played g c = λ given first playing.
@@ -43,31 +43,9 @@ pub returns-in-Ok-take_tpdu-clause-played : goal.returns-in-Ok-take_tpdu-clause-
 returns-in-Ok-take_tpdu-clause-played g c = λ given first playing.
     plays_further given first _ _ _ _ c.read_behind.new.line (λ found follows. c.in-Ok.ensures.gives (may_stand given.is_served) given.text found follows) c.args.link.now c.take_tpdu.new.link _ _ (Transfers c.in-Transfers.tpdu.now) c.runs_are_counted.ensures.join c.plans_are_set_in_order.ensures
     c.in-Transfers.ensures.0 c.in-Transfers.ensures.1
-    (λ old before seen told. tpdu_does c.in-Transfers.tpdu.now c.args.link.now c.take_tpdu.new.link old before _ _ (c.in-Ok-take_tpdu.ensures.gives old before seen told)) playing
+    (λ old seen. tpdu_does c.in-Transfers.tpdu.now c.args.link.now c.take_tpdu.new.link old _ _ (c.in-Ok-take_tpdu.ensures.gives old seen)) playing
 
 pub returns-in-Err-take_tpdu-clause-played : goal.returns-in-Err-take_tpdu-clause-played
 returns-in-Err-take_tpdu-clause-played g c = λ given first playing.
     breaks_in given first _ _ _ (g.R.Source.left c.read_behind.new.source) c.read_behind.new.line (λ found follows. c.in-Ok.ensures.gives (may_stand given.is_served) given.text found follows) c.args.link.now c.take_tpdu.new.link _ _ (Transfers c.in-Transfers.tpdu.now) c.runs_are_counted.ensures.join
-    c.in-Transfers.ensures.1 (λ old before seen told. tpdu_breaks c.in-Transfers.tpdu.now c.args.link.now c.take_tpdu.new.link old before _ _ (c.in-Err-take_tpdu.ensures.gives old before seen told)) playing
-
--- ---- over any memory
-
-pub returns-in-Err-clause-reads : goal.returns-in-Err-clause-reads
-returns-in-Err-clause-reads g c = λ text opening reading.
-    reads_to_end may_follow opening text _ _ (ends_reading may_follow opening text _ _ _ _ (λ found follows. c.in-Err.ensures.gives may_follow text found follows) reading)
-
-pub returns-in-Nothing-clause-reads : goal.returns-in-Nothing-clause-reads
-returns-in-Nothing-clause-reads g c = λ text opening reading.
-    reads_on may_follow opening text _ _ _ _ c.read_behind.new.line (λ found follows. c.in-Ok.ensures.gives may_follow text found follows) c.in-Nothing.ensures.0 reading
-
-pub returns-in-OutOfPlace-clause-reads : goal.returns-in-OutOfPlace-clause-reads
-returns-in-OutOfPlace-clause-reads g c = λ text opening reading.
-    ends_reading may_follow opening text _ _ _ _ (λ found follows. bad_behind may_follow text found c.read_behind.new.script _ c.read_behind.new.line _ (c.in-Ok.ensures.gives may_follow text found follows) c.in-OutOfPlace.ensures c.number.ensures) reading
-
-pub returns-in-Ok-take_step-clause-reads : goal.returns-in-Ok-take_step-clause-reads
-returns-in-Ok-take_step-clause-reads g c = λ text opening reading.
-    reads_on may_follow opening text _ _ _ _ c.read_behind.new.line (λ found follows. c.in-Ok.ensures.gives may_follow text found follows) c.in-Takes.ensures.0 reading
-
-pub returns-in-Ok-take_tpdu-clause-reads : goal.returns-in-Ok-take_tpdu-clause-reads
-returns-in-Ok-take_tpdu-clause-reads g c = λ text opening reading.
-    reads_on may_follow opening text _ _ _ _ c.read_behind.new.line (λ found follows. c.in-Ok.ensures.gives may_follow text found follows) c.in-Transfers.ensures.0 reading
+    c.in-Transfers.ensures.1 (λ old seen. tpdu_breaks c.in-Transfers.tpdu.now c.args.link.now c.take_tpdu.new.link old _ _ (c.in-Err-take_tpdu.ensures.gives old seen)) playing

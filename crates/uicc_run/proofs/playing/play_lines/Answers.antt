@@ -1,11 +1,9 @@
 use Rattle.std.proofs.Common.{Option, ap, arith, sym, subst, ◌∙◌}
 use Rattle.std.proofs.lemmas.Bool.{false≢true}
 use Rattle.uicc_types.specs.declared.answers.Answer.{Answer}
-use Rattle.script_reader.specs.Behind.{IsReading, LinesReadTo}
 use Rattle.run_steps.specs.Ends.{moment_at}
 use Rattle.uicc_run.specs.Opening.{is_handset}
 use Rattle.uicc_run.specs.BetweenLines.{IsPlaying}
-use Rattle.uicc_run.specs.Steps.{may_stand}
 use Rattle.uicc_run.proofs.playing.play_lines.Goals as goal
 
 -- ---- the card
@@ -15,11 +13,6 @@ returns-in-Err-clause-played g c = λ given first unserved playing.
     let begun = subst (λ (kept : Option Answer). IsPlaying given first c.args.script.now (g.R.Source.left c.args.source.now) kept (moment_at c.args.card.now (g.W.Sink.taken c.args.trace.now))) (sym c.new-link.ensures) playing in
     c.in-Err.ensures.played given first (c.loop-script.invariant.playing given first unserved begun)
 
-pub returns-in-Err-clause-reads : goal.returns-in-Err-clause-reads
-returns-in-Err-clause-reads g c = λ text opening reading.
-    subst (λ s. LinesReadTo (may_stand s) opening text (g.R.Source.left c.play_line.new.source) c.in-Err.end) (sym (ap is_handset c.in-Card.is))
-    (c.in-Err.ensures.reads text opening (subst (λ s. IsReading (may_stand s) opening text c.loop-script.script (g.R.Source.left c.loop-script.source)) (ap is_handset c.in-Card.is) (c.loop-script.invariant.reads text opening reading)))
-
 pub loop-script-preserved-in_default : goal.loop-script-preserved-in_default
 loop-script-preserved-in_default g c =
     let for_card = ap is_handset c.in-Card.is in
@@ -27,9 +20,6 @@ loop-script-preserved-in_default g c =
       playing = λ given first unserved playing. c.in_default.ensures.played given first (c.loop-script.invariant.playing given first unserved playing);
       serving = λ text opening given served serving. absurd (false≢true (sym for_card ∙ served));
       between = λ served. absurd (false≢true (sym for_card ∙ served));
-      reads = λ text opening reading.
-          subst (λ s. IsReading (may_stand s) opening text c.play_line.new.script (g.R.Source.left c.play_line.new.source)) (sym for_card)
-          (c.in_default.ensures.reads text opening (subst (λ s. IsReading (may_stand s) opening text c.loop-script.script (g.R.Source.left c.loop-script.source)) for_card (c.loop-script.invariant.reads text opening reading)));
       within = λ text within. c.play_line.ensures.within text (c.loop-script.invariant.within text within);
       kept = let before = c.loop-script.invariant.kept in let now = c.play_line.ensures.tallies.steps.kept in omega arith;
       source_kept = let before = c.loop-script.invariant.source_kept in let now = c.play_line.ensures.tallies.source_cause.kept in omega arith;
@@ -42,11 +32,6 @@ loop-script-preserved-in_default g c =
 pub returns-in-Err-serve_line-clause-served : goal.returns-in-Err-serve_line-clause-served
 returns-in-Err-serve_line-clause-served g c = λ text opening given served serving. c.in-Err-serve_line.ensures.served text opening given (c.loop-script.invariant.serving text opening given served serving)
 
-pub returns-in-Err-serve_line-clause-reads : goal.returns-in-Err-serve_line-clause-reads
-returns-in-Err-serve_line-clause-reads g c = λ text opening reading.
-    subst (λ s. LinesReadTo (may_stand s) opening text (g.R.Source.left c.serve_line.new.source) c.in-Err-serve_line.end) (sym (ap is_handset c.in-Handset.is))
-    (c.in-Err-serve_line.ensures.reads text opening (subst (λ s. IsReading (may_stand s) opening text c.loop-script.script (g.R.Source.left c.loop-script.source)) (ap is_handset c.in-Handset.is) (c.loop-script.invariant.reads text opening reading)))
-
 pub loop-script-preserved : goal.loop-script-preserved
 loop-script-preserved g c =
     let for_handset = ap is_handset c.in-Handset.is in
@@ -54,9 +39,6 @@ loop-script-preserved g c =
       playing = λ given first unserved playing. absurd (false≢true (sym unserved ∙ for_handset));
       serving = λ text opening given served serving. c.in_default-serve_line.ensures.served text opening given (c.loop-script.invariant.serving text opening given served serving);
       between = λ served. c.in_default-serve_line.ensures.further.between;
-      reads = λ text opening reading.
-          subst (λ s. IsReading (may_stand s) opening text c.serve_line.new.script (g.R.Source.left c.serve_line.new.source)) (sym for_handset)
-          (c.in_default-serve_line.ensures.reads text opening (subst (λ s. IsReading (may_stand s) opening text c.loop-script.script (g.R.Source.left c.loop-script.source)) for_handset (c.loop-script.invariant.reads text opening reading)));
       within = λ text within. c.serve_line.ensures.within text (c.loop-script.invariant.within text within);
       kept = let before = c.loop-script.invariant.kept in let now = c.serve_line.ensures.tallies.steps.kept in omega arith;
       source_kept = let before = c.loop-script.invariant.source_kept in let now = c.serve_line.ensures.tallies.source_cause.kept in omega arith;

@@ -2,7 +2,6 @@
 use Rattle.std.proofs.Common.{◌≡◌, List, ℕ, is_some, ◌≤◌, true, false}
 use Rattle.byte_streams.specs.Reading.{IsWithin}
 use Rattle.script_form.specs.declared.lines.ScriptLine.{ScriptLine}
-use Rattle.script_reader.specs.Behind.{IsReading}
 use Rattle.run_steps.specs.Ends.{moment_at}
 use Rattle.run_steps.specs.Views.{CardView}
 use Rattle.phone_runs.specs.BetweenLines.{IsBetweenLines, IsServing}
@@ -10,7 +9,6 @@ use Rattle.phone_runs.specs.Runs.{Beginning}
 use Rattle.uicc_run.specs.Opening.{is_handset}
 use Rattle.uicc_run.specs.Playing.{Given}
 use Rattle.uicc_run.specs.BetweenLines.{IsPlaying}
-use Rattle.uicc_run.specs.Steps.{may_stand}
 use Rattle.uicc_run.proofs.playing.play_lines.Given as goal
 
 abbrev pub invariant-loop-script : goal.invariant-loop-script
@@ -20,8 +18,6 @@ invariant-loop-script g l = record {
   serving : (text : List ℕ) (opening : List ScriptLine) (given : Beginning) → is_handset l.listener ≡ true → IsServing text opening given l.initial.script (g.R.Source.left l.initial.source) l.initial.phone (moment_at l.initial.card (g.W.Sink.taken l.initial.trace))
       → IsServing text opening given l.script (g.R.Source.left l.source) l.phone (moment_at l.card (g.W.Sink.taken l.trace));
   between : is_handset l.listener ≡ true → IsBetweenLines l.script l.phone;
-  reads : (text : List ℕ) (opening : List ScriptLine) → IsReading (may_stand (is_handset l.listener)) opening text l.initial.script (g.R.Source.left l.initial.source)
-      → IsReading (may_stand (is_handset l.listener)) opening text l.script (g.R.Source.left l.source);
   within : (text : List ℕ) → IsWithin text l.initial.script.reader (g.R.Source.left l.initial.source) → IsWithin text l.script.reader (g.R.Source.left l.source);
   kept : l.initial.card.parts.meter.faults ≤ l.card.parts.meter.faults;
   source_kept : g.R.Source.faults l.initial.source ≤ g.R.Source.faults l.source;

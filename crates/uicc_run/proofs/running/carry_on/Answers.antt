@@ -1,10 +1,8 @@
-use Rattle.std.proofs.Common.{inl, inr, refl, ap, sym, ◌∙◌, subst}
-use Rattle.script_reader.specs.Behind.{IsReading, LinesReadTo}
+use Rattle.std.proofs.Common.{inl, inr, refl, ap, ◌∙◌}
 use Rattle.run_steps.specs.Ends.{moment_at}
-use Rattle.phone_runs.proofs.LineLemmas.{ends_amid, starts_serving, stops_at_start, unread_amid}
+use Rattle.phone_runs.proofs.LineLemmas.{ends_amid, starts_serving, stops_at_start}
 use Rattle.uicc_run.specs.Opening.{is_handset}
 use Rattle.uicc_run.specs.Playing.{beginning}
-use Rattle.uicc_run.specs.Steps.{may_stand}
 use Rattle.uicc_run.proofs.ServingLemmas.{opening, plays_first, serves_first, serves_to}
 use Rattle.uicc_run.proofs.running.carry_on.Goals as goal
 
@@ -21,11 +19,6 @@ returns-in-Ok-clause-comes g c = λ given first is started.
           (starts_serving given.text (opening started.section) (beginning given first) _ _ _ from _ stands (c.in-Ok.ensures.starts (beginning given first) stands.begins))),
     )
 
-pub returns-in-Ok-clause-reads : goal.returns-in-Ok-clause-reads
-returns-in-Ok-clause-reads g c = λ text opening reading.
-    subst (λ s. LinesReadTo (may_stand s) opening text (g.R.Source.left c.play_lines.new.source) c.play_lines.result) (sym (ap is_handset c.in-Handset.is))
-    (c.play_lines.ensures.reads text opening (subst (λ s. IsReading (may_stand s) opening text c.args.reader.now (g.R.Source.left c.args.script.now)) (ap is_handset c.in-Handset.is) reading))
-
 -- ---- one in whose start the run ended
 
 pub returns-in-Err-clause-comes : goal.returns-in-Err-clause-comes
@@ -38,11 +31,6 @@ returns-in-Err-clause-comes g c = λ given first is started.
           (ends_amid given.text (opening started.section) (beginning given first) _ c.in-Err.end _ _ c.end_of.ensures
           (stops_at_start given.text (opening started.section) (beginning given first) _ _ from _ c.in-Err.end stands (c.in-Err.ensures.starts (beginning given first) stands.begins))),
     )
-
-pub returns-in-Err-clause-reads : goal.returns-in-Err-clause-reads
-returns-in-Err-clause-reads g c = λ text opening reading.
-    subst (λ s. LinesReadTo (may_stand s) opening text (g.R.Source.left c.args.script.now) c.end_of.result) (sym (ap is_handset c.in-Handset.is))
-    (unread_amid opening text _ c.in-Err.end c.end_of.result c.end_of.ensures)
 
 -- ---- the card
 

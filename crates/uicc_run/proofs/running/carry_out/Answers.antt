@@ -14,52 +14,24 @@ returns-in_default-clause-comes g c = λ given told from. quiet_still given _ _ 
 
 pub returns-in-Ok-clause-comes : goal.returns-in-Ok-clause-comes
 returns-in-Ok-clause-comes g c = λ given told from.
-    let wish = from.reads.is_asked c.in-Some.asked c.in-Some.ensures.so in
-    c.read_and_play.ensures.comes given told (to_play given _ _ _ _ _ from.reads (wish.served_is ∙ sym (ap is_handset c.listener_for-listener.ensures)) (wish.first_is ∙ makes_bare _ c.in-Play.is ∙ ap Some (sym c.in-Ok.ensures)) wish.store_is) from.others_are
+    let wish = from.is_asked c.in-Some.asked c.in-Some.ensures.so in
+    c.read_and_play.ensures.comes given told (to_play given told _ _ _ _ _ from (wish.served_is ∙ sym (ap is_handset c.listener_for-listener.ensures)) (wish.first_is ∙ makes_bare _ c.in-Play.is ∙ ap Some (sym c.in-Ok.ensures)) wish.store_is) from.others_are
 
 pub returns-in-Open-clause-comes : goal.returns-in-Open-clause-comes
 returns-in-Open-clause-comes g c = λ given told from.
-    let wish = from.reads.is_asked c.in-Some.asked c.in-Some.ensures.so in
-    c.read_and_play-in-Open.ensures.comes given told (to_play given _ _ _ _ _ from.reads (wish.served_is ∙ ap is_served_by c.in-Open.is) (wish.first_is ∙ ap first_of c.in-Open.is) wish.store_is) from.others_are
+    let wish = from.is_asked c.in-Some.asked c.in-Some.ensures.so in
+    c.read_and_play-in-Open.ensures.comes given told (to_play given told _ _ _ _ _ from (wish.served_is ∙ ap is_served_by c.in-Open.is) (wish.first_is ∙ ap first_of c.in-Open.is) wish.store_is) from.others_are
 
 pub returns-in-Err-clause-comes : goal.returns-in-Err-clause-comes
-returns-in-Err-clause-comes g c = λ given told from. not_begun given told _ _ (mark_of given.pages) _ _ _ _ from.reads.text_is from.others_are
+returns-in-Err-clause-comes g c = λ given told from. not_begun given told _ _ (mark_of given.pages) _ _ _ _ from.text_is from.others_are
 
 pub returns-in-Load-clause-comes : goal.returns-in-Load-clause-comes
 returns-in-Load-clause-comes g c = λ given told from.
-    let wish = from.reads.is_asked c.in-Some.asked c.in-Some.ensures.so in
+    let wish = from.is_asked c.in-Some.asked c.in-Some.ensures.so in
     absurd (no_load _ c.in-Load.start c.in-Load.count c.in-Load.is wish.for_card)
 
 pub returns-in-Bip-clause-comes : goal.returns-in-Bip-clause-comes
 returns-in-Bip-clause-comes g c = λ given told from.
-    let wish = from.reads.is_asked c.in-Some.asked c.in-Some.ensures.so in
-    absurd (no_bip _ c.in-Bip.is wish.for_card)
-
--- ---- which lines of it were read
-
-pub returns-in_default-clause-reads : goal.returns-in_default-clause-reads
-returns-in_default-clause-reads g c = λ given from. tt
-
-pub returns-in-Ok-clause-reads : goal.returns-in-Ok-clause-reads
-returns-in-Ok-clause-reads g c = λ given from.
-    let wish = from.is_asked c.in-Some.asked c.in-Some.ensures.so in
-    c.read_and_play.ensures.reads given (to_play given _ _ _ _ _ from (wish.served_is ∙ sym (ap is_handset c.listener_for-listener.ensures)) (wish.first_is ∙ makes_bare _ c.in-Play.is ∙ ap Some (sym c.in-Ok.ensures)) wish.store_is)
-
-pub returns-in-Open-clause-reads : goal.returns-in-Open-clause-reads
-returns-in-Open-clause-reads g c = λ given from.
-    let wish = from.is_asked c.in-Some.asked c.in-Some.ensures.so in
-    c.read_and_play-in-Open.ensures.reads given (to_play given _ _ _ _ _ from (wish.served_is ∙ ap is_served_by c.in-Open.is) (wish.first_is ∙ ap first_of c.in-Open.is) wish.store_is)
-
-pub returns-in-Err-clause-reads : goal.returns-in-Err-clause-reads
-returns-in-Err-clause-reads g c = λ given from. tt
-
-pub returns-in-Load-clause-reads : goal.returns-in-Load-clause-reads
-returns-in-Load-clause-reads g c = λ given from.
-    let wish = from.is_asked c.in-Some.asked c.in-Some.ensures.so in
-    absurd (no_load _ c.in-Load.start c.in-Load.count c.in-Load.is wish.for_card)
-
-pub returns-in-Bip-clause-reads : goal.returns-in-Bip-clause-reads
-returns-in-Bip-clause-reads g c = λ given from.
     let wish = from.is_asked c.in-Some.asked c.in-Some.ensures.so in
     absurd (no_bip _ c.in-Bip.is wish.for_card)
 
@@ -77,28 +49,28 @@ returns-in-Load-clause-taken g c = λ text told. IsTaken-none _ text _ told
 -- ---- what the memory holds
 
 pub returns-in_default-clause-memory : goal.returns-in_default-clause-memory
-returns-in_default-clause-memory g c = λ given from. record { bytes = λ none kept. absurd kept; half_made = λ some failed. absurd (cc); no_memory = λ some wanting. absurd (cc) }
+returns-in_default-clause-memory g c = λ given told from. record { bytes = λ none kept. absurd kept; half_made = λ some failed. absurd (cc); no_memory = λ some wanting. absurd (cc) }
 
 pub returns-in-Ok-clause-memory : goal.returns-in-Ok-clause-memory
-returns-in-Ok-clause-memory g c = λ given from.
+returns-in-Ok-clause-memory g c = λ given told from.
     let wish = from.is_asked c.in-Some.asked c.in-Some.ensures.so in
-    c.read_and_play.ensures.memory given (to_play given _ _ _ _ _ from (wish.served_is ∙ sym (ap is_handset c.listener_for-listener.ensures)) (wish.first_is ∙ makes_bare _ c.in-Play.is ∙ ap Some (sym c.in-Ok.ensures)) wish.store_is)
+    c.read_and_play.ensures.memory given (to_play given told _ _ _ _ _ from (wish.served_is ∙ sym (ap is_handset c.listener_for-listener.ensures)) (wish.first_is ∙ makes_bare _ c.in-Play.is ∙ ap Some (sym c.in-Ok.ensures)) wish.store_is)
 
 pub returns-in-Open-clause-memory : goal.returns-in-Open-clause-memory
-returns-in-Open-clause-memory g c = λ given from.
+returns-in-Open-clause-memory g c = λ given told from.
     let wish = from.is_asked c.in-Some.asked c.in-Some.ensures.so in
-    c.read_and_play-in-Open.ensures.memory given (to_play given _ _ _ _ _ from (wish.served_is ∙ ap is_served_by c.in-Open.is) (wish.first_is ∙ ap first_of c.in-Open.is) wish.store_is)
+    c.read_and_play-in-Open.ensures.memory given (to_play given told _ _ _ _ _ from (wish.served_is ∙ ap is_served_by c.in-Open.is) (wish.first_is ∙ ap first_of c.in-Open.is) wish.store_is)
 
 pub returns-in-Err-clause-memory : goal.returns-in-Err-clause-memory
-returns-in-Err-clause-memory g c = λ given from. record { bytes = λ none kept. refl; half_made = λ some failed. absurd (cc); no_memory = λ some wanting. inl refl }
+returns-in-Err-clause-memory g c = λ given told from. record { bytes = λ none kept. refl; half_made = λ some failed. absurd (cc); no_memory = λ some wanting. inl refl }
 
 pub returns-in-Load-clause-memory : goal.returns-in-Load-clause-memory
-returns-in-Load-clause-memory g c = λ given from.
+returns-in-Load-clause-memory g c = λ given told from.
     let wish = from.is_asked c.in-Some.asked c.in-Some.ensures.so in
     absurd (no_load _ c.in-Load.start c.in-Load.count c.in-Load.is wish.for_card)
 
 pub returns-in-Bip-clause-memory : goal.returns-in-Bip-clause-memory
-returns-in-Bip-clause-memory g c = λ given from.
+returns-in-Bip-clause-memory g c = λ given told from.
     let wish = from.is_asked c.in-Some.asked c.in-Some.ensures.so in
     absurd (no_bip _ c.in-Bip.is wish.for_card)
 
@@ -115,57 +87,32 @@ returns-in_default-clause-usage g c = record {
 -- ---- a long run
 
 pub returns-in_default-clause-load : goal.returns-in_default-clause-load
-returns-in_default-clause-load g c = record {
-  load = λ given told start count taken from. absurd (c.in_default.ensures (record { mode = Load start count; devices = from.devices }) from.words_are);
-  load_unwritten = λ start count asks. absurd (c.in_default.ensures (record { mode = Load start count; devices = asks.0 }) asks.1);
-  load_unread = λ start count asks. absurd (c.in_default.ensures (record { mode = Load start count; devices = asks.0 }) asks.1);
-  load_no_memory = λ given told start count from wants. absurd (c.in_default.ensures (record { mode = Load start count; devices = from.devices }) from.words_are);
-}
+returns-in_default-clause-load g c = λ start count asks. absurd (c.in_default.ensures (record { mode = Load start count; devices = asks.0 }) asks.1)
 
 pub returns-in-Ok-clause-load : goal.returns-in-Ok-clause-load
-returns-in-Ok-clause-load g c = record {
-  load = λ given told start count taken from. absurd (not_load start count from.devices c.in-Some.asked (c.in-Some.ensures.only (record { mode = Load start count; devices = from.devices }) from.words_are) c.in-Play.is);
-  load_unwritten = λ start count asks. absurd (not_load start count asks.0 c.in-Some.asked (c.in-Some.ensures.only (record { mode = Load start count; devices = asks.0 }) asks.1) c.in-Play.is);
-  load_unread = λ start count asks. absurd (not_load start count asks.0 c.in-Some.asked (c.in-Some.ensures.only (record { mode = Load start count; devices = asks.0 }) asks.1) c.in-Play.is);
-  load_no_memory = λ given told start count from wants. absurd (not_load start count from.devices c.in-Some.asked (c.in-Some.ensures.only (record { mode = Load start count; devices = from.devices }) from.words_are) c.in-Play.is);
-}
+returns-in-Ok-clause-load g c = λ start count asks. absurd (not_load start count asks.0 c.in-Some.asked (c.in-Some.ensures.only (record { mode = Load start count; devices = asks.0 }) asks.1) c.in-Play.is)
 
 pub returns-in-Err-clause-load : goal.returns-in-Err-clause-load
-returns-in-Err-clause-load g c = record {
-  load = λ given told start count taken from. absurd (not_load start count from.devices c.in-Some.asked (c.in-Some.ensures.only (record { mode = Load start count; devices = from.devices }) from.words_are) c.in-Play.is);
-  load_unwritten = λ start count asks. absurd (not_load start count asks.0 c.in-Some.asked (c.in-Some.ensures.only (record { mode = Load start count; devices = asks.0 }) asks.1) c.in-Play.is);
-  load_unread = λ start count asks. absurd (not_load start count asks.0 c.in-Some.asked (c.in-Some.ensures.only (record { mode = Load start count; devices = asks.0 }) asks.1) c.in-Play.is);
-  load_no_memory = λ given told start count from wants. absurd (not_load start count from.devices c.in-Some.asked (c.in-Some.ensures.only (record { mode = Load start count; devices = from.devices }) from.words_are) c.in-Play.is);
-}
+returns-in-Err-clause-load g c = λ start count asks. absurd (not_load start count asks.0 c.in-Some.asked (c.in-Some.ensures.only (record { mode = Load start count; devices = asks.0 }) asks.1) c.in-Play.is)
 
 pub returns-in-Open-clause-load : goal.returns-in-Open-clause-load
-returns-in-Open-clause-load g c = record {
-  load = λ given told start count taken from. absurd (not_load_open start count from.devices c.in-Some.asked (c.in-Some.ensures.only (record { mode = Load start count; devices = from.devices }) from.words_are) c.in-Open.is);
-  load_unwritten = λ start count asks. absurd (not_load_open start count asks.0 c.in-Some.asked (c.in-Some.ensures.only (record { mode = Load start count; devices = asks.0 }) asks.1) c.in-Open.is);
-  load_unread = λ start count asks. absurd (not_load_open start count asks.0 c.in-Some.asked (c.in-Some.ensures.only (record { mode = Load start count; devices = asks.0 }) asks.1) c.in-Open.is);
-  load_no_memory = λ given told start count from wants. absurd (not_load_open start count from.devices c.in-Some.asked (c.in-Some.ensures.only (record { mode = Load start count; devices = from.devices }) from.words_are) c.in-Open.is);
-}
+returns-in-Open-clause-load g c = λ start count asks. absurd (not_load_open start count asks.0 c.in-Some.asked (c.in-Some.ensures.only (record { mode = Load start count; devices = asks.0 }) asks.1) c.in-Open.is)
 
 pub returns-in-Load-clause-load : goal.returns-in-Load-clause-load
-returns-in-Load-clause-load g c = record {
-  load = λ given told start count taken from.
+returns-in-Load-clause-load g c = λ start count asks. record {
+  comes = λ given told taken from.
       let same = c.in-Some.ensures.only (record { mode = Load start count; devices = from.devices }) from.words_are in
       the_load given told start count c.in-Load.start c.in-Load.count from.devices c.in-Some.asked c.load.result.0 _ same c.in-Load.is
       (c.load.ensures.comes given told taken (from.store_is ∙ ap (λ r. r.devices.pages) same) from.over);
-  load_unwritten = λ start count asks. refl;
-  load_unread = λ start count asks. refl;
-  load_no_memory = λ given told start count from wants.
+  unwritten = refl;
+  unread = refl;
+  no_memory = λ given told from wants.
       let same = c.in-Some.ensures.only (record { mode = Load start count; devices = from.devices }) from.words_are in
       c.load.ensures.no_memory given (from.store_is ∙ ap (λ r. r.devices.pages) same) from.over.boxes_are wants;
 }
 
 pub returns-in-Bip-clause-load : goal.returns-in-Bip-clause-load
-returns-in-Bip-clause-load g c = record {
-  load = λ given told start count taken from. absurd (not_load_bip start count from.devices c.in-Some.asked (c.in-Some.ensures.only (record { mode = Load start count; devices = from.devices }) from.words_are) c.in-Bip.is);
-  load_unwritten = λ start count asks. absurd (not_load_bip start count asks.0 c.in-Some.asked (c.in-Some.ensures.only (record { mode = Load start count; devices = asks.0 }) asks.1) c.in-Bip.is);
-  load_unread = λ start count asks. absurd (not_load_bip start count asks.0 c.in-Some.asked (c.in-Some.ensures.only (record { mode = Load start count; devices = asks.0 }) asks.1) c.in-Bip.is);
-  load_no_memory = λ given told start count from wants. inl refl;
-}
+returns-in-Bip-clause-load g c = λ start count asks. absurd (not_load_bip start count asks.0 c.in-Some.asked (c.in-Some.ensures.only (record { mode = Load start count; devices = asks.0 }) asks.1) c.in-Bip.is)
 
 -- ---- the channels of a terminal
 

@@ -22,9 +22,6 @@ pub returns-in-Err-clause-comes : goal.returns-in-Err-clause-comes
 returns-in-Err-clause-comes g c = λ given told served from at.
     not_made given told c.args.reader.now (g.R.Source.left c.args.script.now) (g.W.Sink.taken c.args.trace.now) c.args.card.now _ _ _ _ at from.before_is c.in-Err.ensures.described from.meter_is c.in-Err.ensures.keeps.cause
 
-pub returns-in-Err-clause-reads : goal.returns-in-Err-clause-reads
-returns-in-Err-clause-reads g c = λ given described served at. tt
-
 pub returns-in-Err-clause-memory : goal.returns-in-Err-clause-memory
 returns-in-Err-clause-memory g c = record {
   bytes = λ none refusal. absurd (none_is_some c.args.card.now none c.in-Err.ensures.described);

@@ -3,12 +3,9 @@ use Rattle.std.proofs.Common.{ap, ◌∙◌}
 use Rattle.card_core.specs.Parts.{CardParts}
 use Rattle.card_core.specs.Cards.{parts_of}
 use Rattle.uicc_run.specs.BetweenLines.{IsStarted}
-use Rattle.uicc_run.specs.Opening.{is_handset}
 use Rattle.uicc_run.proofs.HasKindsOfLemmas.{at_end}
 use Rattle.uicc_run.proofs.EndsForLemmas.{ends_played, rose_as}
 use Rattle.uicc_run.proofs.OpeningLemmas.{formatted_then, given_back, refusal_keeps, refused, starts_seen}
-use Rattle.uicc_run.proofs.ReadingLemmas.{reads_behind, reads_refused, reads_start}
-use Rattle.uicc_run.proofs.ServingLemmas.{opening}
 use Rattle.uicc_run.specs.Playing.{ComesTo}
 use Rattle.uicc_run.proofs.running.open_and_play.Goals as goal
 
@@ -25,15 +22,6 @@ returns-in-Ok-clause-comes g c = λ given told served tells made.
           (c.carry_on-end.ensures.comes given started.0 served
           (at_end (IsStarted given started.0 c.args.reader.now (g.R.Source.left c.args.script.now)) c.new-card.result parts (g.W.Sink.taken c.args.trace.now) c.new-card.ensures.parts c.new-card.ensures.waiting started.2)),
     )
-
-pub returns-in-Ok-clause-reads : goal.returns-in-Ok-clause-reads
-returns-in-Ok-clause-reads g c = λ given described served at.
-    reads_behind given (g.R.Source.left c.carry_on-end.new.script) at.section described (is_handset c.args.listener) c.carry_on-end.result served at.described
-    (c.carry_on-end.ensures.reads given.text (opening at.section) (reads_start given c.args.reader.now (g.R.Source.left c.args.script.now) described (is_handset c.args.listener) at))
-
-pub returns-in-Err-clause-reads : goal.returns-in-Err-clause-reads
-returns-in-Err-clause-reads g c = λ given described served at.
-    rw c.ending_of.ensures (reads_refused given c.args.reader.now (g.R.Source.left c.args.script.now) described c.in-Err.fault at)
 
 pub returns-in-Err-clause-comes : goal.returns-in-Err-clause-comes
 returns-in-Err-clause-comes g c = λ given told served tells made.

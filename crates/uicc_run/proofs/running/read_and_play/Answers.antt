@@ -20,11 +20,6 @@ returns-in-Err-clause-comes g c = λ given told play is. (
   quiet_still given _ _ _ _ is.before_is is.meter_is,
 )
 
-pub returns-in-Err-clause-reads : goal.returns-in-Err-clause-reads
-returns-in-Err-clause-reads g c = λ given play.
-    subst (λ b. EndsInSection b given.first given.text (g.R.Source.left c.read_section.new.source) c.in-Err.fault) (ap (minds_of g.B.Applet.mind) c.as_slice.ensures.value ∙ play.boxes_are)
-    (c.in-Err.ensures.card given.first given.text (at_first _ given.first given.text c.new-reader.result _ c.args.card c.new-reader.ensures.reader c.new-reader.ensures.number play.first_is play.text_is))
-
 pub returns-in-Err-clause-taken : goal.returns-in-Err-clause-taken
 returns-in-Err-clause-taken g c = λ text told. IsTaken-within text _ _ (c.in-Err.ensures.within text (IsWithin-start text _ _ c.new-reader.ensures.reader told))
 
@@ -42,10 +37,6 @@ returns-then-pages-clause-comes g c = λ given told play is.
     comes_over (Comes given told (g.R.Source.left c.make_and_play-ending.new.script) c.make_and_play-ending.result.0) given true _ (g.E.Eeprom.contents c.into_device.result) _ _ over
     (subst (λ e. Comes given told (g.R.Source.left c.make_and_play-ending.new.script) c.make_and_play-ending.result.0
     (record { held = held_in true (g.E.Eeprom.contents e); taken = g.W.Sink.taken c.make_and_play-ending.new.trace; meter = g.E.Eeprom.meter e; boxes = minds_of g.B.Applet.mind c.make_and_play-ending.result.2.items })) (sym c.into_device.ensures.device) comes)
-
-pub returns-then-pages-clause-reads : goal.returns-then-pages-clause-reads
-returns-then-pages-clause-reads g c = λ given play.
-    c.make_and_play-ending.ensures.reads given _ play.served_is (at_start_of _ given.boxes given.first given.text _ _ _ (ap (minds_of g.B.Applet.mind) c.as_slice.ensures.value ∙ play.boxes_are) (c.in-Ok.ensures.card given.first given.text (at_first _ given.first given.text c.new-reader.result _ c.args.card c.new-reader.ensures.reader c.new-reader.ensures.number play.first_is play.text_is)))
 
 pub returns-then-pages-clause-taken : goal.returns-then-pages-clause-taken
 returns-then-pages-clause-taken g c = λ text told.
@@ -95,10 +86,6 @@ returns-clause-comes g c = λ given told play is.
     comes_over (Comes given told (g.R.Source.left c.make_and_play-ending-else-pages.new.script) c.make_and_play-ending-else-pages.result.0) given false _ (g.E.Eeprom.contents c.into_device-else-pages.result) _ _ over
     (subst (λ e. Comes given told (g.R.Source.left c.make_and_play-ending-else-pages.new.script) c.make_and_play-ending-else-pages.result.0
     (record { held = held_in false (g.E.Eeprom.contents e); taken = g.W.Sink.taken c.make_and_play-ending-else-pages.new.trace; meter = g.E.Eeprom.meter e; boxes = minds_of g.B.Applet.mind c.make_and_play-ending-else-pages.result.2.items })) (sym c.into_device-else-pages.ensures.device) comes)
-
-pub returns-clause-reads : goal.returns-clause-reads
-returns-clause-reads g c = λ given play.
-    c.make_and_play-ending-else-pages.ensures.reads given _ play.served_is (at_start_of _ given.boxes given.first given.text _ _ _ (ap (minds_of g.B.Applet.mind) c.as_slice.ensures.value ∙ play.boxes_are) (c.in-Ok.ensures.card given.first given.text (at_first _ given.first given.text c.new-reader.result _ c.args.card c.new-reader.ensures.reader c.new-reader.ensures.number play.first_is play.text_is)))
 
 pub returns-clause-taken : goal.returns-clause-taken
 returns-clause-taken g c = λ text told.

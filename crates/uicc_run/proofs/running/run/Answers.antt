@@ -1,5 +1,5 @@
 -- What is known before the last line, and what that line is.
-use Rattle.std.proofs.Common.{◌≡◌, ℕ, List, Some, ap, arith, map, string_bytes, subst, ◌∙◌}
+use Rattle.std.proofs.Common.{◌≡◌, ℕ, List, Some, false, ap, arith, map, string_bytes, subst, ◌∙◌}
 use Rattle.std.proofs.lemmas.Grind.{common_steps}
 use Rattle.uicc_run.specs.Headline.{Closes}
 use Rattle.uicc_run.specs.Running.{HasCauses, RefusesWords}
@@ -56,7 +56,7 @@ returns g c =
             untouched = c.carry_out-ending.ensures.ends.untouched;
             boxes_kept = c.carry_out-ending.ensures.ends.boxes;
             memory_kept =
-                let kept = c.carry_out-ending.ensures.memory given from.reads in
+                let kept = c.carry_out-ending.ensures.memory given told from in
                 record { bytes = kept.bytes; half_made = kept.half_made; no_memory = kept.no_memory };
           };
           taken = put;
@@ -64,30 +64,30 @@ returns g c =
           closes = c.close.ensures.closed;
         };
         load = λ given told start count from.
-            let unwritten = c.carry_out-ending.ensures.load.load_unwritten start count (from.devices, from.words_are) in
+            let loads = c.carry_out-ending.ensures.load start count (from.devices, from.words_are) in
             record {
               ending = ending;
               cause = record {
                 eeprom_failed = c.carry_out-ending.ensures.ends.memory_cause;
                 untouched = c.carry_out-ending.ensures.ends.untouched;
                 boxes_kept = c.carry_out-ending.ensures.ends.boxes;
-                no_memory = c.carry_out-ending.ensures.load.load_no_memory given told start count from;
+                no_memory = loads.no_memory given told from;
               };
-              comes = c.carry_out-ending.ensures.load.load given told start count after.taken from;
-              closes = subst (λ t. Closes ending t after.taken status) (ap g.W.Sink.taken unwritten) c.close.ensures.closed;
+              comes = loads.comes given told after.taken from;
+              closes = subst (λ t. Closes ending t after.taken status) (ap g.W.Sink.taken loads.unwritten) c.close.ensures.closed;
             };
         bip = bip;
       };
-      statuses = statuses_so words status before after ending put c.close.ensures.closed c.close.ensures.status c.carry_out-ending.ensures.reads c.carry_out-ending.ensures.comes
-          c.carry_out-ending.ensures.usage.usage usage causes (λ given told start count from. (_, c.carry_out-ending.ensures.load.load given told start count after.taken from))
+      statuses = statuses_so words status before after ending put c.close.ensures.closed c.close.ensures.status c.carry_out-ending.ensures.comes
+          c.carry_out-ending.ensures.usage.usage usage causes (λ given told start count from. (_, (c.carry_out-ending.ensures.load start count (from.devices, from.words_are)).comes given told after.taken from))
           (serves_to_end words status before after bip (λ asks. status_low _ status c.close.ensures.status (c.carry_out-ending.ensures.bip asks).low) causes.source_failed.rose causes.sink_failed.rose);
       stays = record {
         untouched = grind (arith, common_steps);
         bip_untouched = λ asks. let channels = c.carry_out-ending.ensures.bip asks in (channels.memory_kept, channels.boxes_kept);
         unread = c.carry_out-ending.ensures.usage.unread;
-        load_unread = c.carry_out-ending.ensures.load.load_unread;
+        load_unread = λ start count asks. (c.carry_out-ending.ensures.load start count asks).unread;
         taken = c.carry_out-ending.ensures.taken;
         no_memory = λ given from some is.
-            (c.carry_out-ending.ensures.memory given from).no_memory some (five_is ending status c.close.ensures.status is);
+            (c.carry_out-ending.ensures.memory given false from).no_memory some (five_is ending status c.close.ensures.status is);
       };
     }
