@@ -203,6 +203,47 @@ class Doubts(unittest.TestCase):
         self.assertEqual([names.name_of(path) for path in (("7F66", "5F40", "6F01"), ("7F77", "6F50"), ("7F10", "6F31"), ("7F20", "6F07"))], ["6F01", "6F50", "6F31", "EF.IMSI"])
 
 
+class Kinds(unittest.TestCase):
+    """Which file a USIM and a SIM have at a place that both have one at."""
+
+    def services(self, text, kind, word):
+        card = lint.read(profile.made_in(text.encode(), "card.toml").text).card
+        return contents.services_on(kind, card.files[("7F20", "6F38")].content) & set(contents.services([word], kind))
+
+    def test_services_of_a_sim(self):
+        """FDN is service 3 of EF_SST, and 2 of EF_UST; CBMI 14, and 15."""
+        for word in ("FDN", "CBMI"):
+            on = f'like = "sim"\n[EF_SST]\nservices_on = ["{word}"]\n'
+            self.assertTrue(self.services(on, "sst", word))
+            self.assertFalse(self.services(on.replace("_on", "_off"), "sst", word))
+        self.assertTrue(self.services('like = "sim"\n[EF_SST]\nservices_off = ["FDN"]\n', "sst", "ADN"))
+        with self.assertRaisesRegex(profile.BadProfile, "tools/profile services sst lists them"):
+            profile.made_in(b'like = "sim"\n[EF_SST]\nservices_on = ["xyz"]\n', "card.toml")
+
+    def test_a_usim_with_the_key_of_a_sim(self):
+        """EF_Kc of GSM in 7F20 leaves EF_UST what it is, with its SFI, and is a warning."""
+        for table in ("[EF_Kc]\nsize = 9\n", '[EF_Kc]\nhex = "00"\n', '["7F20/6F20"]\nhex = "00"\n'):
+            made = profile.made_in(f'like = "usim"\n[EF_UST]\nservices = [1, 10, 19]\n{table}'.encode(), "card.toml")
+            self.assertIn("fill 7F206F38 0 010204", made.text)
+            self.assertIn("ef 7F206F38 t 8 4 ", made.text)
+            self.assertEqual([text for text in made.warnings if "that of a SIM" in text],
+                             [f"card.toml, line 4: {table.partition(chr(10))[0]} is that of a SIM, 7F20/6F20: a USIM's is [\"5F3B/EF_Kc\"], in "
+                              "DF.GSM-ACCESS"])
+            self.assertFalse([text for text in made.warnings if "EF.SST" in text])
+            self.assertTrue(profile.is_usim(lint.read(made.text).card.files))
+
+    def test_the_name_of_the_other_kind(self):
+        for kind, name, own in (("usim", "EF_SST", "EF_UST"), ("sim", "EF_UST", "EF_SST")):
+            made = profile.made_in(f'like = "{kind}"\n[{name}]\nservices = [1]\n'.encode(), "card.toml")
+            self.assertEqual([text for text in made.warnings if "is a file of" in text],
+                             [f"card.toml, line 2: [{name}] is a file of a {'SIM' if kind == 'usim' else 'USIM'}, and this card is a {kind.upper()}'s: it "
+                              f"is taken for its [{own}], which is at that place"])
+
+    def test_a_file_of_several_services(self):
+        with self.assertRaisesRegex(profile.BadProfile, "`EF_P-CSCF` is a file of 2 services, 1 and 5: by its number or its name one is told"):
+            profile.made_in(b'like = "usim"\n["7FF2/EF_IST"]\nservices = ["EF_P-CSCF"]\n', "card.toml")
+
+
 class Quotes(unittest.TestCase):
     def test_quotes(self):
         """Of a line that is no TOML for its quotes these are named."""

@@ -277,7 +277,10 @@ def services(given, kind):
             yield one
             continue
         word = str(one).lower()
-        number = known.get(word) or service_of_file(str(one), kind)
+        several = services_of_file(str(one), kind)
+        number = known.get(word) or (several[0] if len(several) == 1 else None)
+        if number is None and several:
+            raise BadContent(f"`{one}` is a file of {len(several)} services, {' and '.join(map(str, several))}: by its number or its name one is told")
         if number is None:
             meant = difflib.get_close_matches(word, known, 1)
             raise BadContent(f"`{one}` is no service by number or name" + (f", but `{table('files')[kind][known[meant[0]] - 1]}` is" if meant else "")
@@ -285,11 +288,9 @@ def services(given, kind):
         yield number
 
 
-def service_of_file(word, kind):
-    """The service that a standard file is for, by the file's name; None where it is for none, or for one of several."""
-    needs = {tuple(entry.get("needs", {}).get(kind, ())) for entry in by_name(word)} - {()}
-    found = needs.pop() if len(needs) == 1 else ()
-    return found[0] if len(found) == 1 else None
+def services_of_file(word, kind):
+    """The numbers of the services that a standard file is for, by the file's name."""
+    return sorted({number for entry in by_name(word) for number in entry.get("needs", {}).get(kind, ())})
 
 
 def encode_ust(given, size=None, kind="ust"):
