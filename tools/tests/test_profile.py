@@ -6,7 +6,7 @@ import unittest
 
 import fuzz_profile
 from common import in_process
-from uicc import access, checking, contents, lint, located, names, process, profile, rules
+from uicc import access, checking, contents, lint, located, names, process, profile, rules, structured
 
 EXAMPLES = os.path.join(process.TOP, "examples")
 
@@ -244,6 +244,40 @@ class Kinds(unittest.TestCase):
             profile.made_in(b'like = "usim"\n["7FF2/EF_IST"]\nservices = ["EF_P-CSCF"]\n', "card.toml")
 
 
+class Concealing(unittest.TestCase):
+    """The keys of EF_SUCI_Calc_Info, each by the protection scheme that takes it."""
+    A, B = "5A" * 32, "02" + "5B" * 32
+    # schemes with the places of their keys, the keys, and what is doubtful in them
+    TABLE = [
+        ([(1, 1), (2, 2), (0, 0)], [(27, A), (30, B)], None),
+        ([(2, 1)], [(30, "04" + "5B" * 64)], None),
+        ([(0, 0)], [], None),
+        ([(1, 1)], [(27, A[2:])], "scheme 1 (profile A) takes a key of 32 bytes, and that at place 1 has 31"),
+        ([(1, 1)], [(27, "00")], "that at place 1 has 1"),
+        ([(1, 1)], [(27, B)], "scheme 1 (profile A) takes a key of 32 bytes, and that at place 1 has 33"),
+        ([(2, 1)], [(30, A)], "scheme 2 (profile B) takes a key of 33 or 65 bytes, and that at place 1 has 32"),
+        ([(2, 1)], [(30, "05" + B[2:])], "the key at place 1, for scheme 2 (profile B), begins with 05, and one of 33 bytes with 02 or 03"),
+        ([(1, 3)], [(27, A)], "scheme 1 (profile A) takes the key 3, and the list has 1"),
+        ([(1, 0)], [(27, A)], "scheme 1 (profile A) takes the key 0, and the list has 1"),
+        ([(1, 1)], [], "scheme 1 (profile A) takes the key 1, and the list has none"),
+        ([(0, 2)], [(27, A)], "scheme 0 takes the key 2, and the list has 1"),
+        ([(1, 1), (1, 2)], [(27, A), (27, A)], "two keys have the identifier 27"),
+    ]
+
+    def test_keys(self):
+        for schemes, keys, why in self.TABLE:
+            with self.subTest(schemes=schemes, keys=keys):
+                content = structured.encode_concealing({"schemes": [{"scheme": one, "key": key} for one, key in schemes],
+                                                        "keys": [{"id": one, "key": key} for one, key in keys]})
+                made = profile.made_in(f'like = "usim"\n[EF_UST]\nservices_on = [124]\n[EF_SUCI_Calc_Info]\nhex = "{content.hex()}"\n'.encode(), "card.toml")
+                found = [text for text in checking.findings(lint.read(made.text).card, "usim") if "scheme" in text or "identifier" in text]
+                self.assertEqual(len(found), 1 if why else 0, found)
+                self.assertIn(why or "", "".join(found))
+                self.assertEqual(bool(why), any("EF_SUCI_Calc_Info" in text for text in made.warnings))
+        # one that is blank holds no key
+        contents.check("suci", b"\xFF" * 40)
+
+
 class Quotes(unittest.TestCase):
     def test_quotes(self):
         """Of a line that is no TOML for its quotes these are named."""
@@ -437,7 +471,12 @@ class Checking(unittest.TestCase):
         ("[EF_UST]\nservices = [10, 12, 19, 20, 21, 27, 33]",
          "7F10/6F3A EF.ADN is there, and its service 1 (local phone book) is off in EF.UST"),
         ("[EF_UST]\nservices = [1, 2, 10, 12, 19, 20, 21, 27, 33]",
-         "service 2 (fixed dialling numbers) is on in EF.UST, and no file of it is there: EF.FDN, EF.EST"),
+         "service 2 (fixed dialling numbers) is on in EF.UST, and no file of it is there: EF.FDN"),
+        # EF_EST is for fixed dialling and others, and says of none that it is there
+        ('["7F20/EF_EST"]\nservices = []\n[EF_UST]\nservices_on = [2, 34]', "service 2 (fixed dialling numbers) is on in EF.UST, and no file of it is there: EF.FDN"),
+        ('["7F20/EF_FDN"]\nentries = []\n[EF_UST]\nservices_on = [2]',
+         "service 2 (fixed dialling numbers) is on in EF.UST, and EF.EST isn't there, which says whether it is enabled"),
+        ("[EF_UST]\nservices_on = [34]", "service 34 (enabled services table) is on in EF.UST, and no file of it is there: EF.EST"),
         ('["7F10/EF_ADN"]\nlength = 13', "7F10/6F3A EF.ADN has 13 bytes a record, and should have at least 14"),
         ('[pins]\npin1 = { on = false }', "7F10/6F3A EF.ADN, rule 2F06:6, read, update: it asks for PIN 1, which is off, so that everybody "
                                          "may (and 15 more files go by it)"),
@@ -455,7 +494,8 @@ class Checking(unittest.TestCase):
 
     def test_pin_2_protects(self):
         """The template's PIN 2 is on, so that a rule by it says who may update."""
-        given = b'like = "usim"\n["7F20/EF_FDN"]\nentries = []\nupdate = "pin2"\n[EF_UST]\nservices = [1, 2, 10, 12, 19, 20, 21, 27, 33]\n'
+        given = b'like = "usim"\n["7F20/EF_FDN"]\nentries = []\nupdate = "pin2"\n["7F20/EF_EST"]\nservices = []\n' \
+                b'[EF_UST]\nservices = [1, 2, 10, 12, 19, 20, 21, 27, 33]\n'
         made = profile.made_in(given, "card.toml")
         card = lint.read(made.text).card
         self.assertTrue(card.pins[0x81].enabled)
@@ -527,6 +567,26 @@ class Command(unittest.TestCase):
             self.assertEqual(self.profile("build", given, "-o", script, "--force").returncode, 0)
             with open(script, encoding="utf-8") as built:
                 self.assertTrue(built.read().endswith("start\n"))
+
+    def test_lines_of_ones_own_before_start(self):
+        """A file, a PIN or an applet that somebody put into a script isn't lost where the script is built again."""
+        with tempfile.TemporaryDirectory() as folder:
+            given, script = os.path.join(folder, "card.toml"), os.path.join(folder, "card.script")
+            with open(given, "w", encoding="ascii") as out:
+                out.write('like = "usim"\n[EF_SPN]\nspn = "A"\n')
+            self.assertEqual(self.profile("build", given, "-o", script).returncode, 0)
+            with open(script, encoding="utf-8") as built:
+                text = built.read()
+            mine = text.replace("\nstart\n", "\nef 7F206F77 t 3 - -\nrow 3 1 010300\nstart\n")
+            with open(script, "w", encoding="utf-8") as out:
+                out.write(mine)
+            done = self.profile("build", given, "-o", script)
+            self.assertEqual((done.returncode, done.stdout), (2, ""))
+            self.assertEqual(done.stderr, f"profile: nothing is written: {script} describes 7F20/6F77, the applet on shelf 3, which the new script doesn't; "
+                             "--force writes over it\n")
+            with open(script, encoding="utf-8") as there:
+                self.assertEqual(there.read(), mine)
+            self.assertEqual(self.profile("build", given, "-o", script, "--force").returncode, 0)
 
     def test_a_tree_is_whole(self):
         """What is decoded goes on in a next line, and of other bytes a line is shown, or all."""

@@ -12,7 +12,7 @@ import contextlib
 import dataclasses
 import os
 
-from . import coding, contents, decode, described, fields, grammar, image, keeping, kept, kinds, layout, lint, names, process, profile, refusals, tlv
+from . import coding, contents, decode, described, dump, fields, grammar, image, keeping, kept, kinds, layout, lint, names, process, profile, refusals, tlv
 from .follow import Follower
 from .status import Status
 from .toolkit import MEMORY_PROBLEM, Toolkit, ToolkitNow
@@ -24,6 +24,8 @@ WARNINGS = ("6282", "6283")
 # the bytes that a command asks for at most, and those that it carries
 MOST, MOST_DATA = 256, 255
 PIN_LENGTH = 8
+# the structures of EFs: transparent, linear fixed, cyclic
+STRUCTURES = ("t", "l", "c")
 # the words of a script that plan a fault: of writes, and of reads
 CUT, FAIL, OF_READS = "cut", "fail", "readfail"
 OF_WRITES = (CUT, FAIL)
@@ -176,6 +178,22 @@ def expect_number(what, number, least, most):
     if not isinstance(number, int) or not least <= number <= most:
         raise ValueError(f"{what} is a number from {least} to {most}, and not {number!r}")
     return number
+
+
+def expect_identifier(identifier):
+    """ValueError, where it is no identifier of a file."""
+    if not isinstance(identifier, str) or not dump.is_identifier(identifier):
+        raise ValueError(f"the identifier of a file is four hexadecimal digits as text, \"6F01\" say, and not {identifier!r}")
+
+
+def expect_rule(rule):
+    """The identifier of an EF_ARR and the number of a record, by both or by a text with a colon between them."""
+    parts = rule.split(":") if isinstance(rule, str) else rule
+    if parts is None:
+        return None
+    if len(parts) == 2 and isinstance(parts[0], str) and dump.is_identifier(parts[0]) and str(parts[1]).isdecimal() and 1 <= int(parts[1]) <= 0xFF:
+        return parts[0], int(parts[1])
+    raise ValueError(f"a rule is the identifier of an EF_ARR and the number of a record, (\"2F06\", 1) or \"2F06:1\", and not {rule!r}")
 
 
 class Card:
@@ -539,12 +557,24 @@ class Card:
 
     def create_df(self, identifier: str) -> Answer:
         """Makes a DF, which is the current one then."""
+        expect_identifier(identifier)
         return self._create(decode.NewFile(decode.KIND_OF[None], identifier, None, 0, 0, None, None))
 
     def create_ef(self, identifier: str, structure: str = "t", length: int = 1, count: int = 1, short: int | None = None,
-                  rule: tuple[str, int] | None = None) -> Answer:
+                  rule: tuple[str, int] | str | None = None) -> Answer:
         """Makes an EF, which is the current one then: of so many records of a length, or transparent, of that length. `rule` is the
-        identifier of an EF_ARR and the number of a record."""
+        identifier of an EF_ARR and the number of a record, ("2F06", 1) or "2F06:1"."""
+        expect_identifier(identifier)
+        if structure not in STRUCTURES:
+            raise ValueError(f"the structure of an EF is {', '.join(map(repr, STRUCTURES))}, and not {structure!r}")
+        if structure == "t":
+            expect_number("the length of a transparent EF", length, 1, 0xFFFF)
+        else:
+            expect_number("the length of a record", length, 1, 0xFF)
+            expect_number("the count of records", count, 1, 0xFE)
+        if short is not None:
+            expect_number("an SFI", short, 0, 30)
+        rule = expect_rule(rule)
         return self._create(decode.NewFile(decode.KIND_OF[structure], identifier, structure, length, count, short, rule))
 
     def _create(self, made):
@@ -552,12 +582,13 @@ class Card:
 
     def delete_file(self, identifier: str) -> Answer:
         """Deletes a file of the current DF."""
+        expect_identifier(identifier)
         return self._command(decode.DELETE_FILE, 0, 0, bytes.fromhex(identifier))
 
     def resize_file(self, identifier: str, size: int) -> Answer:
         """Gives a transparent EF another size: it keeps its first bytes, and those that come are FF."""
-        if not 0 <= size < 1 << 16:
-            raise ValueError(f"a size is told by two bytes: {size}")
+        expect_identifier(identifier)
+        expect_number("a size", size, 0, 0xFFFF)
         return self._command(decode.RESIZE_FILE, 0, 0, bytes.fromhex(identifier) + size.to_bytes(2, "big"), toolkit=True)
 
     # PINs
