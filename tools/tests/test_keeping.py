@@ -91,6 +91,12 @@ class Kept(unittest.TestCase):
             with self.assertRaisesRegex(ValueError, why):
                 call()
 
+    def test_an_empty_list(self):
+        """A list of networks that is blank is an empty one, which can be written again."""
+        self.assertEqual(self.card.say("EF.FPLMN"), {"plmns": []})
+        self.card.write("EF.SPN", spn="R")
+        self.assertEqual(self.card.say("EF.NETPAR"), {"hex": "FF" * 46})
+
     def test_a_key_that_is_called_like_an_argument(self):
         for key in ("name", "self"):
             with self.assertRaisesRegex(ValueError, f"{key} isn't known: `spn = "):
