@@ -4,7 +4,7 @@ import os
 import re
 from xml.sax.saxutils import escape, quoteattr
 
-from . import process
+from . import process, replacing
 
 PASSED, FAILED, SKIPPED = "passed", "failed", "skipped"
 # what no XML may have in it
@@ -36,7 +36,8 @@ def tap(results):
 
 
 def refuse_unwritable(path):
-    """OSError, where no file can be written at a path; what is there stays as it is."""
+    """OSError, where no file can be written at a path, and Kept, where something else than a report is there; what is there stays as it is."""
+    replacing.expect_result(path, replacing.REPORT)
     is_there = os.path.exists(path)
     with open(path, "a", encoding="utf-8"):
         pass
