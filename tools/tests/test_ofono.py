@@ -2,6 +2,7 @@
 import contextlib
 import io
 import os
+import shutil
 import subprocess
 import sys
 import tempfile
@@ -228,6 +229,15 @@ class Tool(unittest.TestCase):
         self.assertEqual(ran.returncode, 2)
         self.assertIn("/nowhere/a.trace", ran.stderr)
         self.assertNotIn("Traceback", ran.stderr)
+
+    def test_the_script_is_not_written_over(self):
+        with tempfile.TemporaryDirectory() as folder:
+            path = os.path.join(folder, "a.script")
+            shutil.copy(ofono_tries.TELEPHONE, path)
+            ran = self.ran(path, "--trace", path)
+            self.assertEqual((ran.returncode, ran.stderr), (2, f"ofono: nothing is written: {path} is what this is made of, and would be lost\n"))
+            with open(path, "rb") as one, open(ofono_tries.TELEPHONE, "rb") as other:
+                self.assertEqual(one.read(), other.read())
 
     @unittest.skipIf(MISSING, f"oFono isn't here: {MISSING}")
     def test_no_card(self):

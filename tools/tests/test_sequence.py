@@ -1229,6 +1229,25 @@ class Tool(unittest.TestCase):
             self.assertEqual(tool(path, "--on", "telephone", "--junit", report).returncode, 2)
             self.assertFalse(os.path.exists(report))
 
+    def test_what_is_read_is_not_written_over(self):
+        """A report's place is none of what it is made of: the sequences, the card, the known verdicts and the class stay as they are."""
+        with tempfile.TemporaryDirectory() as folder:
+            path, (_, on) = self.put(folder, *self.PASSES), self.own(folder, "pass")
+            known, card, link = (os.path.join(folder, name) for name in ("known.tap", "card.script", "link.xml"))
+            for name, text in ((known, tool(path, "--tap").stdout), (card, "".join(line + "\n" for line in open_lines(USIM)))):
+                with open(name, "w", encoding="utf-8") as out:
+                    out.write(text)
+            os.symlink(path, link)
+            for words in ((path, path), (folder, path), (path, link), (path, known, "--known", known), (path, card, "--card", card),
+                          (path, on.rpartition(":")[0], "--on", on)):
+                given, report, *more = words
+                with self.subTest(words=words):
+                    before = open_lines(report)
+                    done = tool(given, "--junit", report, *more)
+                    self.assertEqual((done.returncode, done.stdout, done.stderr),
+                                     (2, "", f"sequence: nothing is written: {report} is what this is made of, and would be lost\n"))
+                    self.assertEqual(open_lines(report), before)
+
     def test_an_interruption(self):
         """What was played is told, and of what is left that it wasn't."""
         lines = ("def poll(self):", "    if self.player.card.is_second:", "        raise KeyboardInterrupt", "    super().poll()", "played = 0",

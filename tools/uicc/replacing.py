@@ -8,13 +8,22 @@ class Kept(Exception):
     """A file stays as it is: something would be lost."""
 
 
+def expect_other(path, *sources):
+    """Kept, where a result would be written over a file that it is made of. A source that isn't named is None."""
+    for source in filter(None, sources):
+        if os.path.isfile(path) and os.path.exists(source) and os.path.samefile(path, source):
+            raise Kept(f"nothing is written: {path} is what this is made of, and would be lost")
+
+
 def expect_free(path, text, source):
     """Kept, where a result would be written over what it is made of, or over a file that holds something else. Of a script that a profile was
     built to, all before `start` is made anew; so one with nothing after it may go."""
     if not os.path.isfile(path):
         return
-    if os.path.samefile(path, source):
-        raise Kept(f"nothing is written: {path} is what this is made of, and would be lost; --force writes over it")
+    try:
+        expect_other(path, source)
+    except Kept as fault:
+        raise Kept(f"{fault}; --force writes over it") from None
     with open(path, "rb") as there:
         content = there.read()
     if content == text.encode():
