@@ -372,6 +372,30 @@ class Expect(unittest.TestCase):
         with open(path, encoding="ascii") as left:
             self.assertEqual(left.read(), "start\napdu 00A4000C023F00\n#< ..00\nreset\n#! reset\n")
 
+    # a script, and what it is when what it shows was written into it: each `#..` and each line that is met stays. The stand-in answers 9000
+    OPEN = [
+        ("start\napdu 00A4000C02\n#< 9001\napdu 00B0000001\n#..\nreset\n#! reset\n", "start\napdu 00A4000C02\n#< 9000\napdu 00B0000001\n#..\nreset\n#! reset\n"),
+        # the difference stands after it, and below the same line
+        ("start\napdu 00A4000C02\n#..\n#< 9001\nreset\n", "start\napdu 00A4000C02\n#..\n#< 9000\nreset\n#! reset\n"),
+        # it stands for what several lines show
+        ("start\nreset\n#! off\n#..\napdu 00A4000C02\napdu 00B0000001\nreset\n#! reset\n",
+         "start\nreset\n#! reset\n#..\napdu 00A4000C02\napdu 00B0000001\nreset\n#! reset\n"),
+        # what is met after it stays, and what stands in no line comes below its own
+        ("start\n#..\n#> 00B0000001\n#< 9000\napdu 00A4000C02\napdu 00B0000001\nreset\napdu 00C0000001\n",
+         "start\n#..\n#> 00B0000001\n#< 9000\napdu 00A4000C02\napdu 00B0000001\nreset\n#! reset\napdu 00C0000001\n#< 9000\n"),
+        # a line that nothing is shown in the place of is taken away
+        ("start\n#..\nreset\n#! reset\n#! reset\n#! reset\n", "start\n#..\nreset\n#! reset\n"),
+    ]
+
+    def test_gaps_stay(self):
+        for text, wanted in self.OPEN:
+            with self.subTest(text=text):
+                path = self.put("script", text)
+                self.assertEqual(self.expect(path, "--write").returncode, 0)
+                with open(path, encoding="ascii") as left:
+                    self.assertEqual(left.read(), wanted)
+                self.assertEqual(self.expect(path).returncode, 0)
+
     def test_a_star_that_is_not_understood(self):
         done = self.expect(self.put("script", "start\napdu 00A4000C023F00\n#< 90*\n"))
         self.assertEqual(done.returncode, 1)
