@@ -840,6 +840,89 @@ class Verdicts(unittest.TestCase):
                                     "command MORE TIME", "response result 00")
                 self.assertEqual(outcome[:2], (verdict.FAILED if why else verdict.PASSED, why))
 
+    # a command of a terminal and how it is changed, and what is told of it
+    WITH_WRONG_P1 = [
+        (decode.PROFILE, "command MORE TIME", "the TERMINAL PROFILE 801001000C.. is answered 6A86, wrong P1 or P2", "sequence one"),
+        (decode.FETCH, "command MORE TIME", "the command isn't fetched: the FETCH 801201000B is answered 6A86, wrong P1 or P2", "command MORE TIME"),
+        (decode.RESPONSE, "command MORE TIME", "no TERMINAL RESPONSE comes: the TERMINAL RESPONSE 801401000C.. is answered 6A86, wrong P1 or P2",
+         "response result 00"),
+        (decode.ENVELOPE, "command SET UP MENU title M item 2 B", "no ENVELOPE comes: the ENVELOPE 80C2010009.. is answered 6A86, wrong P1 or P2",
+         "envelope menu selection identifier 2"),
+    ]
+
+    def over_usim(self, change, *lines, make=able_terminal.AbleTerminal):
+        with Card(USIM) as card:
+            return verdict.judged(read(*lines)[0], undertest.InPython(lambda player: make(Link(player, change))), card)
+
+    def test_headers(self):
+        """P1 P2 of the toolkit's commands are 00 00 (ETSI TS 102 221, 11.2): what the card refuses has not come."""
+        for ins, command, why, step in self.WITH_WRONG_P1:
+            lines = [command, "response result 00"]
+            if ins == decode.ENVELOPE:
+                lines += ["user pick 2", "envelope menu selection identifier 2"]
+            with self.subTest(why=why):
+                wrong = lambda sent, ins=ins: sent[:2] + b"\1\0" + sent[4:] if sent[1] == ins else sent  # noqa: E731
+                outcome = self.over_usim(lambda sent, wrong=wrong: [wrong(sent)], *lines)
+                self.assertEqual(outcome.verdict, verdict.FAILED)
+                self.assertEqual(outcome.why, self.as_card_says(why))
+                self.assertEqual(outcome.step.text, step)
+                if ins in (decode.RESPONSE, decode.ENVELOPE):
+                    # one that is right after it doesn't mend it
+                    outcome = self.over_usim(lambda sent, wrong=wrong, ins=ins: [wrong(sent), sent] if sent[1] == ins else [sent], *lines)
+                    self.assertEqual((outcome.verdict, outcome.why), (verdict.FAILED, self.as_card_says(why.partition(": ")[2])))
+
+    def as_card_says(self, why):
+        return why.replace("wrong P1 or P2", names.status("6A86"))
+
+    def test_what_comes_in_the_place_of_a_response(self):
+        """A command of a wrong length, or a reset."""
+        outcome = self.over_usim(lambda sent: [sent + b"\0\0"] if sent[1] == decode.RESPONSE else [sent], "command MORE TIME", "response result 00")
+        self.assertEqual((outcome.verdict, outcome.why),
+                         (verdict.FAILED, f"no TERMINAL RESPONSE comes: the TERMINAL RESPONSE 801400000C.. is answered 6700, {names.status('6700')}"))
+
+        class Restarts(able_terminal.AbleTerminal):
+            def carry_out(self, command):
+                return self._restart()
+
+        for command, hint in (("MORE TIME", ""), ("REFRESH qualifier 04", "; for a REFRESH that resets the card a step `restart` asks")):
+            self.assertEqual(self.told(undertest.InPython(Restarts), f"command {command}", "response result 00"),
+                             (verdict.FAILED, "no TERMINAL RESPONSE comes: the card is reset in its place" + hint, "response result 00"))
+
+    def test_a_command_that_waits_for_its_user(self):
+        """Where no line says what he does, nothing can be said of the terminal; but of a command that it must answer by itself."""
+        asking, why = "command DISPLAY TEXT qualifier 80 text A", "no TERMINAL RESPONSE comes: the command waits for the user, and no line `user` stands after it"
+        for lines in ((asking, "response result 00"), ("user ok", asking, "response result 00"), (asking, "response any")):
+            with self.subTest(lines=lines):
+                self.assertEqual(self.told(undertest.InPython(), *lines)[:2], (verdict.INCONCLUSIVE, why))
+        self.assertEqual(self.told(undertest.InPython(), asking, "response result 32")[:2], (verdict.FAILED, "no TERMINAL RESPONSE comes"))
+        self.assertEqual(self.told(undertest.InPython(), asking, "user press", "response result 00")[:2], (verdict.FAILED, "no TERMINAL RESPONSE comes"))
+
+    def test_a_response_to_what_its_user_cannot_do(self):
+        """A terminal that ends the session then is none that fails."""
+        class Ends(able_terminal.AbleTerminal):
+            def _type(self, text):
+                return super()._type(text) or self._end(handset.ENDED)
+
+        lines = ("command GET INPUT text A length 1 3", "user type abcdef", "response result 00 more")
+        self.assertEqual(self.told(undertest.InPython(Ends), *lines),
+                         (verdict.INCONCLUSIVE, "`abcdef` has 6 characters, and the command asks for 1 to 3", "user type abcdef"))
+
+    def test_an_entry_that_is_not_in_the_menu(self):
+        menu = ("command SET UP MENU title M item 1 A item 2 B", "response result 00")
+        for more in ((), ("command MORE TIME", "response result 00")):
+            self.assertEqual(self.told(undertest.InPython(), *menu, *more, "user pick 7", "envelope menu selection identifier 7"),
+                             (verdict.INCONCLUSIVE, "the menu has no entry 7", "user pick 7"))
+        self.assertEqual(self.told(undertest.InPython(), *menu, "user pick 7", "no envelope")[0], verdict.PASSED)
+
+    def test_what_is_shown_last_is_in_the_trace(self):
+        """Also where no step looks for it."""
+        class Looks(undertest.InPython):
+            def look(self):
+                self.terminal.card.note("text Last")
+
+        outcome = verdict.judged(read("command MORE TIME", "response result 00")[0], Looks(), Obliging())
+        self.assertEqual((outcome.verdict, outcome.player.trace[-1]), (verdict.PASSED, "* text Last"))
+
     def test_a_terminal_that_resets_the_card_of_itself(self):
         class Restarts(undertest.InPython):
             def poll(self):
@@ -1229,6 +1312,51 @@ class Tool(unittest.TestCase):
             self.assertEqual(tool(path, "--on", "telephone", "--junit", report).returncode, 2)
             self.assertFalse(os.path.exists(report))
 
+    def test_names_that_are_there_twice(self):
+        """The verdicts of two files' sequences of one name are told apart by their order; where one of them isn't played, nothing is known."""
+        lines = ("command MORE TIME", "response result {}")
+        with tempfile.TemporaryDirectory() as folder:
+            one, other, known = (os.path.join(folder, name) for name in ("1.sequence", "2.sequence", "known.tap"))
+
+            def put(path, result):
+                with open(path, "w", encoding="utf-8") as out:
+                    out.write("\n".join(("sequence a", *lines)).format(result) + "\n")
+            put(one, "00")
+            put(other, "30")
+            with open(known, "w", encoding="utf-8") as out:
+                out.write(tool(one, other, "--tap").stdout)
+            self.assertEqual(tool(one, other, "--known", known).returncode, 0)
+            for words, told in (((other, one), [f"{other}:1: a: failed, and passed before", f"{one}:1: a: passed, and failed before"]),
+                                ((one,), [f"{one}:1: a: passed, and 2 sequences of this name before"])):
+                done = tool(*words, "--known", known)
+                self.assertEqual(done.returncode, 1)
+                for line in told:
+                    self.assertIn(line + "\n", done.stdout)
+            put(one, "31")
+            done = tool(one, other, "--known", known)
+            self.assertEqual(done.returncode, 1)
+            self.assertIn(f"{one}:1: a: failed, and passed before\n1 verdict other than before\n", done.stdout)
+
+    def test_what_is_known_and_not_played(self):
+        with tempfile.TemporaryDirectory() as folder:
+            path, known = self.put(folder, *self.PASSES, *self.FAILS), os.path.join(folder, "known.tap")
+            with open(known, "w", encoding="utf-8") as out:
+                out.write(tool(path, "--tap").stdout)
+            done = tool(path, "--only", "passes", "--known", known)
+            self.assertEqual(done.returncode, 0)
+            self.assertIn("\n1 sequence of before not among these: it fails\nall verdicts as before\n", done.stdout)
+
+    def test_a_class_with_a_neighbour(self):
+        """It is imported as beside a program."""
+        with tempfile.TemporaryDirectory() as folder:
+            path = self.put(folder, *self.PASSES)
+            with open(os.path.join(folder, "base_of_own.py"), "w", encoding="utf-8") as out:
+                out.write("from uicc.undertest import InPython\nclass Base(InPython):\n    pass\n")
+            with open(os.path.join(folder, "with_base.py"), "w", encoding="utf-8") as out:
+                out.write("from base_of_own import Base\nclass Own(Base):\n    pass\n")
+            with unittest.mock.patch.object(sys, "path", list(sys.path)):
+                self.assertEqual(tool(path, "--on", os.path.join(folder, "with_base.py") + ":Own").returncode, 0)
+
     def test_what_is_read_is_not_written_over(self):
         """A report's place is none of what it is made of: the sequences, the card, the known verdicts and the class stay as they are."""
         with tempfile.TemporaryDirectory() as folder:
@@ -1307,7 +1435,7 @@ class Tool(unittest.TestCase):
                 out.write(b"sequence \xFF\n")
             for words, why in (
                     ((os.path.join(folder, "none"),), "no file is there"), ((folder + "/own.py",), "own.py:1: no line begins with `class`"),
-                    ((os.path.join(folder, "bytes.sequence"),), "is text in UTF-8"),
+                    ((os.path.join(folder, "bytes.sequence"),), "/bytes.sequence: the file is no text in UTF-8: the byte FF stands in line 1, at 10\n"),
                     ((os.path.join(folder, "no.d"),), "no file is there"), ((good, "--only", "never"), "no sequence has `never` in its name"),
                     ((good, "--on", "telephone"), "no terminal is called telephone: python, phone, ofono, modem, reader, or FILE.py:CLASS"),
                     ((good, "--on", "modem:70000"), "a port is 0 to 65535, and not 70000"), ((good, "--on", "reader:x"), "a port is 0 to 65535, and not x"),

@@ -30,6 +30,7 @@ REFRESH, MORE_TIME, POLL_INTERVAL, EVENT_LIST = 0x01, 0x02, 0x03, 0x05
 TONE, TEXT, INKEY, INPUT, ITEMS, MENU, LOCAL, TIMERS, IDLE_TEXT = 0x20, 0x21, 0x22, 0x23, 0x24, 0x25, 0x26, 0x27, 0x28
 CARD_RESET, LOCATION = 0x04, 0x00
 START, DEACTIVATE, GET = 0x00, 0x01, 0x02
+CLEARED_BY_USER = 0x80
 KEYPAD, DISPLAY, EARPIECE, CARD, TERMINAL = 0x01, 0x02, 0x03, 0x81, 0x82
 LOCATION_EVENT, ACTIVITY_EVENT, IDLE_EVENT = 0x03, 0x04, 0x05
 MENU_SELECTION, CALL_CONTROL, EVENT_DOWNLOAD, TIMER_EXPIRATION = 0xD3, 0xD4, 0xD6, 0xD7
@@ -178,6 +179,12 @@ def details_of(raw):
     """The details in a proactive command, as a response has to repeat them: zeros, where there are none of three bytes."""
     found = next((value for tag, _, value in objects_of(raw) or () if tag == DETAILS), b"")
     return found if len(found) == 3 else NO_DETAILS
+
+
+def waits_for_user(raw):
+    """Whether a command is answered when its user did something: of DISPLAY TEXT that is said by its qualifier (ETSI TS 102 223, 6.4.1)."""
+    _, kind, qualifier = details_of(raw)
+    return kind in (INKEY, INPUT, ITEMS) or kind == TEXT and bool(qualifier & CLEARED_BY_USER)
 
 
 def read(raw):

@@ -48,6 +48,13 @@ def expect(content, path, *wanted):
         raise Mistaken(f"{path} is {what}: {by}")
 
 
+def no_text(path, fault):
+    """What is said of a file that isn't text in UTF-8: which byte of which line is none."""
+    before = fault.object[:fault.start]
+    line, column = before.count(b"\n") + 1, len(before) - before.rfind(b"\n")
+    return f"{path}: the file is no text in UTF-8: the byte {fault.object[fault.start]:02X} stands in line {line}, at {column}"
+
+
 def expect_card(path):
     """Mistaken, where a file neither describes a card nor is its image; the bytes of the file."""
     with open(path, "rb") as file:
