@@ -62,6 +62,13 @@ class Again(unittest.TestCase):
                     for part in parts:
                         self.assertIn(part, done.stdout)
 
+    def test_lines_that_are_refused_each_time(self):
+        """They are named, though the card ends as it would have: ADM1 isn't verified, or no more after a reset."""
+        done = self.again("apdu 00E000000A62088202782183027F10\n" + ADM + "apdu 00D6820004AABBCCDD\n")
+        self.assertEqual(done.returncode, 0)
+        self.assertIn("\nrefused also where nothing is cut: line 5 (6982)\n", done.stdout)
+        self.assertNotIn("refused", self.again(ADM + "apdu 00D6820004AABBCCDD\n").stdout)
+
     def test_a_picture(self):
         """A stripe for each run, in the colour of how it ends."""
         _, same, otherwise, _ = TABLE["a folder that is there already isn't selected by making it again"]

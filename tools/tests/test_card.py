@@ -355,6 +355,15 @@ class Cards(unittest.TestCase):
             with self.assertRaisesRegex(StatusError, r"6A88: .*: the keys of PINs are 01, 81 \(PIN 2\) and 0A"):
                 card.verify(2, "9876")
 
+    def test_what_is_left_of_an_image(self):
+        with tempfile.TemporaryDirectory() as folder:
+            path = os.path.join(folder, "card.img")
+            with Card(USIM, image=path):
+                pass
+            os.truncate(path, 60_000)
+            with self.assertRaisesRegex(CardError, "card.img: it is no image of a card: it has 60,000 bytes"):
+                Card(path)
+
     def test_files_made_resized_and_deleted(self):
         with Card(USIM) as card:
             card.verify(0x0A, "88888888")
@@ -371,6 +380,23 @@ class Cards(unittest.TestCase):
                 card.select("5F50/4F21")
             with self.assertRaisesRegex(StatusError, "6A89"):
                 card.create_ef("4F20")
+            sent = len(card.trace)
+            for act, why in ((lambda: card.create_ef("6F02", "x", 10), "the structure of an EF is 't', 'l', 'c', and not 'x'"),
+                             (lambda: card.create_ef("6F03", "l", 10, 300), "the count of records is a number from 1 to 254, and not 300"),
+                             (lambda: card.create_ef("6F03", "c", 256), "the length of a record is a number from 1 to 255, and not 256"),
+                             (lambda: card.create_ef("6F01", "t", 70_000), "the length of a transparent EF is a number from 1 to 65535, and not 70000"),
+                             (lambda: card.create_ef("6F01", short=31), "an SFI is a number from 0 to 30, and not 31"),
+                             (lambda: card.create_ef("6F01", rule="2F06"), "a rule is the identifier of an EF_ARR and the number of a record"),
+                             (lambda: card.create_ef("6F01", rule=("2F06", 0)), "and not ('2F06', 0)"),
+                             (lambda: card.create_ef("6F0"), "the identifier of a file is four hexadecimal digits as text, \"6F01\" say, and not '6F0'"),
+                             (lambda: card.create_df(0x7F66), "and not 32614"), (lambda: card.delete_file("EF.ADN"), "and not 'EF.ADN'"),
+                             (lambda: card.resize_file("4F20", -1), "a size is a number from 0 to 65535, and not -1")):
+                with self.assertRaises(ValueError) as caught:
+                    act()
+                self.assertIn(why, str(caught.exception))
+            self.assertEqual(len(card.trace), sent)
+            card.create_ef("4F22", rule="2F06:1")
+            self.assertEqual(card.select("5F50/4F22")["security attributes"], "record 1 of 2F06")
         done = tool("shell", USIM, text="verify adm 88888888\ncreate df 5F50\ncreate ef 4F20 t 4 - -\nread\nresize 4F20 2\nread\nls\ndelete 4F20\nls\n")
         self.assertEqual(done.returncode, 0, done.stdout)
         for part in ("  FFFFFFFF\n", "  FFFF\n", "4F20"):

@@ -327,6 +327,12 @@ class Batch(unittest.TestCase):
         there = ", ".join(os.path.join(self.folder, name + ".script") for name in (names[1], names[0]))
         self.assertEqual(done.stderr, f"profile: nothing is written: {there} would be written over; --force does so\n")
         self.assertEqual(self.held(), before)
+        # an image that is there isn't left beside another card's script
+        done = self.batch(self.HEAD + lines[0], "--force")
+        self.assertEqual((done.returncode, done.stdout), (2, ""))
+        self.assertEqual(done.stderr, f"profile: nothing is written: {os.path.join(self.folder, names[0] + '.img')} would stay as the image of an earlier "
+                         "card; --images with --force writes it anew\n")
+        self.assertEqual(self.held(), before)
         done = self.batch(self.HEAD + lines[2] + lines[1].replace(",001010000000001,", ",001010000000099,") + lines[0], "--images", "--force")
         self.assertEqual((done.returncode, done.stderr), (0, ""))
         after = self.held()
@@ -472,6 +478,64 @@ class Batch(unittest.TestCase):
         self.assertEqual(tree.meanings(card_of(card.made.text).files[("7F10", "6F42")], True), ["1: SC, centre +4917, validity 60 minutes"])
         with self.assertRaisesRegex(batch.BadList, r"line 2: \[EF_SMSP\] records: no words say what these bytes do"):
             batch.cards((base % "00").encode(), "card.toml", rows, "list.csv", lambda: None)
+
+    def test_bytes_that_words_say_in_part(self):
+        """The third byte of EF_AD is said by no word: a column for another part doesn't take it away."""
+        rows = batch.rows_in(f"iccid,EF_AD:network_digits\n{self.ONE},3\n".encode(), "list.csv")
+        with self.assertRaisesRegex(batch.BadList, r"line 2: \[EF_AD\] hex: no words say what these bytes do"):
+            batch.cards(b'like = "usim"\n[EF_AD]\nhex = "80000102"\n', "card.toml", rows, "list.csv", lambda: None)
+
+    def test_a_name_keeps_when_it_is_shown(self):
+        """The column `spn` is the name alone."""
+        rows = batch.rows_in(f"iccid,spn\n{self.ONE},Neu\n".encode(), "list.csv")
+        for held in ('spn = { name = "Nordlicht", with_network = false, abroad = false }', 'hex = "024E6F726465"'):
+            card, = batch.cards(f'like = "usim"\n[EF_SPN]\n{held}\n'.encode(), "card.toml", rows, "list.csv", lambda: None)
+            self.assertEqual(card_of(card.made.text).files[("7F20", "6F46")].content[:5].hex().upper(), "024E6575FF")
+
+    def test_services_of_a_sim(self):
+        """A change of EF_SST's services is by the names of EF_SST: FDN is 3 there, and 2 in EF_UST."""
+        rows = batch.rows_in(f'iccid,EF_SST:services_on\n{self.ONE},"[""FDN""]"\n'.encode(), "list.csv")
+        card, = batch.cards(b'like = "sim"\n[EF_SST]\nservices = [1]\n', "card.toml", rows, "list.csv", lambda: None)
+        self.assertEqual(contents.services_on("sst", card_of(card.made.text).files[("7F20", "6F38")].content), {1, 3})
+
+    def test_all_mistakes_of_a_list(self):
+        """Those of rows alone, of rows beside each other, and of cards, in one run and by lines."""
+        two = number_of("899990100000000002")
+        done = self.batch(f"iccid,imsi,acc,pin1\n{self.ONE},26298000000000X,16,1\n{self.ONE},,,\n1,,,12\n{two}\n,,,1\n")
+        self.assertEqual(done.returncode, 2)
+        told = [line.removeprefix(f"profile: {self.list}, line ") for line in done.stderr.splitlines()]
+        wanted = ["2: [EF_IMSI] imsi: ", "2: [pins] pin1 value: ", "2: acc `16`: ", f"3: its iccid {self.ONE} is that of line 2", "4: [pins] pin1 value: ",
+                  "4: iccid `1`: ", "5: it has 1 cells, ", "6: [pins] pin1 value: ", "6: it has no iccid"]
+        self.assertEqual([text[:len(start)] for text, start in zip(told, wanted, strict=True)], wanted)
+
+    def test_what_cards_have_alike_is_counted(self):
+        """Cards with the profile's PUKs have warnings, in the summary and in the report too."""
+        two = number_of("899990100000000002")
+        done = self.batch(f"iccid,imsi\n{self.ONE},001010000000001\n{two},001010000000002\n")
+        self.assertEqual(done.returncode, 1)
+        self.assertIn("and 2 have warnings; ", done.stdout)
+        with open(os.path.join(self.folder, "report.csv"), encoding="utf-8") as text:
+            for row in csv.DictReader(text):
+                self.assertRegex(row["warnings"], "their cards have the same unblock1, 12345678, which .*; their cards have the same unblock2")
+
+    def test_files_of_different_sizes(self):
+        two = number_of("899990100000000002")
+        head = "iccid,imsi,unblock1,unblock2,adm,EF_SPDI:plmns\n"
+        rows = f'{self.ONE},001010000000001,1{"1" * 7},1{"2" * 7},1{"3" * 7},262-01\n{two},001010000000002,2{"1" * 7},2{"2" * 7},2{"3" * 7},"[""262-01"", ""262-02""]"\n'
+        self.put(self.card, 'like = "usim"\n[EF_UST]\nservices_on = [51]\n[EF_SPDI]\nplmns = []\n')
+        done = self.batch(head + rows)
+        self.assertIn("profile: note: 7F20/6FCD EF.SPDI has 7, 10 bytes by what each card holds: `size` in the profile gives all the same\n", done.stderr)
+        self.put(self.card, 'like = "usim"\n[EF_UST]\nservices_on = [51]\n[EF_SPDI]\nplmns = []\nsize = 20\n')
+        self.assertNotIn("note: ", self.batch(head + rows, "--force").stderr)
+
+    def test_a_byte_order_mark(self):
+        """A profile with the mark that Notepad writes is a profile for all words."""
+        self.put(self.card, '\ufefflike = "usim"\n')
+        for words in (("tree",), ("check",), ("rules",), ("export",), ("build",), ("diff", self.card)):
+            with self.subTest(words=words):
+                done = in_process("profile", *words, self.card)
+                self.assertEqual((done.returncode, done.stderr), (0, ""))
+        self.assertEqual(self.batch(self.HEAD + self.GOOD).returncode, 0)
 
     def test_a_list_over_a_script(self):
         """The card of a script is what the rows are laid over."""

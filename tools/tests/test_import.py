@@ -221,6 +221,20 @@ class LeavingOut(unittest.TestCase):
                 if text.startswith("#" * 80) and len(parts) == 1:
                     self.assertNotIn(("7F10", "6F99"), card.files)
 
+    def test_a_record_of_rules_that_cannot_be_read(self):
+        """The others are kept, and the files that go by them keep their rules."""
+        arr = exported("MF/EF.ARR", "update_record 1 800101900080011aa40683010a950108", "update_record 2 8001019000801",
+                       "update_record 3 800103a406830101950108", identifiers="3f00/2f06", structure="linear_fixed")
+        text = arr + "".join(exported(f"MF/{path[-1]}", "update_binary 00", fcp=parameters("t", 1, rule=("2F06", number)))
+                             for path, number in ((("6F91",), 3), (("6F92",), 2)))
+        card, _, faults = imported(text)
+        self.assertEqual(card.files[("6F91",)].rule[0], "2F06")
+        self.assertEqual(rules.shown(card.rule_file(card.files[("6F91",)]).record(card.files[("6F91",)].rule[1])), "read, update: pin1")
+        self.assertEqual([fault.partition(", ")[2] or fault for fault in faults],
+                         ["MF/EF.ARR: `8001019000801` are no bytes in hexadecimal digits; the record is left out", "MF/6F92: its rule 2F06:2 isn't told"])
+        _, _, faults = imported(exported("MF/6F91", "update_binary 0"))
+        self.assertTrue(faults[0].endswith("; the file is left out"), faults)
+
     def test_a_short_identifier_that_is_taken(self):
         fcp = IMSI_FCP.replace("6F07", "6F99")
         card, _, faults = imported(exported("MF/ADF.USIM/EF.IMSI", "update_binary 082926108967452301", fcp=IMSI_FCP)

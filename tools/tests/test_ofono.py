@@ -235,7 +235,7 @@ class Tool(unittest.TestCase):
             path = os.path.join(folder, "a.script")
             shutil.copy(ofono_tries.TELEPHONE, path)
             ran = self.ran(path, "--trace", path)
-            self.assertEqual((ran.returncode, ran.stderr), (2, f"ofono: nothing is written: {path} is what this is made of, and would be lost\n"))
+            self.assertEqual((ran.returncode, ran.stderr), (2, f"ofono: nothing is written: {path} is what this is made of, and would be lost: the result goes to another file\n"))
             with open(path, "rb") as one, open(ofono_tries.TELEPHONE, "rb") as other:
                 self.assertEqual(one.read(), other.read())
 

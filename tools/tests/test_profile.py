@@ -6,7 +6,7 @@ import unittest
 
 import fuzz_profile
 from common import in_process
-from uicc import access, checking, contents, lint, located, names, process, profile, rules
+from uicc import access, checking, contents, lint, located, names, process, profile, rules, structured
 
 EXAMPLES = os.path.join(process.TOP, "examples")
 
@@ -203,6 +203,81 @@ class Doubts(unittest.TestCase):
         self.assertEqual([names.name_of(path) for path in (("7F66", "5F40", "6F01"), ("7F77", "6F50"), ("7F10", "6F31"), ("7F20", "6F07"))], ["6F01", "6F50", "6F31", "EF.IMSI"])
 
 
+class Kinds(unittest.TestCase):
+    """Which file a USIM and a SIM have at a place that both have one at."""
+
+    def services(self, text, kind, word):
+        card = lint.read(profile.made_in(text.encode(), "card.toml").text).card
+        return contents.services_on(kind, card.files[("7F20", "6F38")].content) & set(contents.services([word], kind))
+
+    def test_services_of_a_sim(self):
+        """FDN is service 3 of EF_SST, and 2 of EF_UST; CBMI 14, and 15."""
+        for word in ("FDN", "CBMI"):
+            on = f'like = "sim"\n[EF_SST]\nservices_on = ["{word}"]\n'
+            self.assertTrue(self.services(on, "sst", word))
+            self.assertFalse(self.services(on.replace("_on", "_off"), "sst", word))
+        self.assertTrue(self.services('like = "sim"\n[EF_SST]\nservices_off = ["FDN"]\n', "sst", "ADN"))
+        with self.assertRaisesRegex(profile.BadProfile, "tools/profile services sst lists them"):
+            profile.made_in(b'like = "sim"\n[EF_SST]\nservices_on = ["xyz"]\n', "card.toml")
+
+    def test_a_usim_with_the_key_of_a_sim(self):
+        """EF_Kc of GSM in 7F20 leaves EF_UST what it is, with its SFI, and is a warning."""
+        for table in ("[EF_Kc]\nsize = 9\n", '[EF_Kc]\nhex = "00"\n', '["7F20/6F20"]\nhex = "00"\n'):
+            made = profile.made_in(f'like = "usim"\n[EF_UST]\nservices = [1, 10, 19]\n{table}'.encode(), "card.toml")
+            self.assertIn("fill 7F206F38 0 010204", made.text)
+            self.assertIn("ef 7F206F38 t 8 4 ", made.text)
+            self.assertEqual([text for text in made.warnings if "that of a SIM" in text],
+                             [f"card.toml, line 4: {table.partition(chr(10))[0]} is that of a SIM, 7F20/6F20: a USIM's is [\"5F3B/EF_Kc\"], in "
+                              "DF.GSM-ACCESS"])
+            self.assertFalse([text for text in made.warnings if "EF.SST" in text])
+            self.assertTrue(profile.is_usim(lint.read(made.text).card.files))
+
+    def test_the_name_of_the_other_kind(self):
+        for kind, name, own in (("usim", "EF_SST", "EF_UST"), ("sim", "EF_UST", "EF_SST")):
+            made = profile.made_in(f'like = "{kind}"\n[{name}]\nservices = [1]\n'.encode(), "card.toml")
+            self.assertEqual([text for text in made.warnings if "is a file of" in text],
+                             [f"card.toml, line 2: [{name}] is a file of a {'SIM' if kind == 'usim' else 'USIM'}, and this card is a {kind.upper()}'s: it "
+                              f"is taken for its [{own}], which is at that place"])
+
+    def test_a_file_of_several_services(self):
+        with self.assertRaisesRegex(profile.BadProfile, "`EF_P-CSCF` is a file of 2 services, 1 and 5: by its number or its name one is told"):
+            profile.made_in(b'like = "usim"\n["7FF2/EF_IST"]\nservices = ["EF_P-CSCF"]\n', "card.toml")
+
+
+class Concealing(unittest.TestCase):
+    """The keys of EF_SUCI_Calc_Info, each by the protection scheme that takes it."""
+    A, B = "5A" * 32, "02" + "5B" * 32
+    # schemes with the places of their keys, the keys, and what is doubtful in them
+    TABLE = [
+        ([(1, 1), (2, 2), (0, 0)], [(27, A), (30, B)], None),
+        ([(2, 1)], [(30, "04" + "5B" * 64)], None),
+        ([(0, 0)], [], None),
+        ([(1, 1)], [(27, A[2:])], "scheme 1 (profile A) takes a key of 32 bytes, and that at place 1 has 31"),
+        ([(1, 1)], [(27, "00")], "that at place 1 has 1"),
+        ([(1, 1)], [(27, B)], "scheme 1 (profile A) takes a key of 32 bytes, and that at place 1 has 33"),
+        ([(2, 1)], [(30, A)], "scheme 2 (profile B) takes a key of 33 or 65 bytes, and that at place 1 has 32"),
+        ([(2, 1)], [(30, "05" + B[2:])], "the key at place 1, for scheme 2 (profile B), begins with 05, and one of 33 bytes with 02 or 03"),
+        ([(1, 3)], [(27, A)], "scheme 1 (profile A) takes the key 3, and the list has 1"),
+        ([(1, 0)], [(27, A)], "scheme 1 (profile A) takes the key 0, and the list has 1"),
+        ([(1, 1)], [], "scheme 1 (profile A) takes the key 1, and the list has none"),
+        ([(0, 2)], [(27, A)], "scheme 0 takes the key 2, and the list has 1"),
+        ([(1, 1), (1, 2)], [(27, A), (27, A)], "two keys have the identifier 27"),
+    ]
+
+    def test_keys(self):
+        for schemes, keys, why in self.TABLE:
+            with self.subTest(schemes=schemes, keys=keys):
+                content = structured.encode_concealing({"schemes": [{"scheme": one, "key": key} for one, key in schemes],
+                                                        "keys": [{"id": one, "key": key} for one, key in keys]})
+                made = profile.made_in(f'like = "usim"\n[EF_UST]\nservices_on = [124]\n[EF_SUCI_Calc_Info]\nhex = "{content.hex()}"\n'.encode(), "card.toml")
+                found = [text for text in checking.findings(lint.read(made.text).card, "usim") if "scheme" in text or "identifier" in text]
+                self.assertEqual(len(found), 1 if why else 0, found)
+                self.assertIn(why or "", "".join(found))
+                self.assertEqual(bool(why), any("EF_SUCI_Calc_Info" in text for text in made.warnings))
+        # one that is blank holds no key
+        contents.check("suci", b"\xFF" * 40)
+
+
 class Quotes(unittest.TestCase):
     def test_quotes(self):
         """Of a line that is no TOML for its quotes these are named."""
@@ -241,6 +316,9 @@ class Mistakes(unittest.TestCase):
         ("[EF_ACC]\nacc = 9", ["line 3: [EF_ACC] acc is a number, and has to be a list of numbers: acc = [9]"]),
         ("[EF_ACC]\nacces = [9]", ["line 3: [EF_ACC] acces isn't known: `acc = [9]` is"]),
         ('lik = "sim"', ["line 2: `lik` isn't known at the top of a profile: `like` is"]),
+        ('[EF_FPLMN]\nlike = "sim"', ["line 3: [EF_FPLMN] like isn't known in a table: `like = \"usim\"` stands at the top of a profile, before the first table"]),
+        ('[pins]\npin4 = { value = "1234" }', ["line 3: [pins] pin4 isn't known: a card here has the PINs pin1, pin2, adm alone"]),
+        ('[EF_SPN]\nrecords = ["00", "01"]\nlength = 1\ncount = 1', ["line 3: [EF_SPN] records: it has 2 records, and room for 1: `count = 2`"]),
         ("colour = 1", ["line 2: `colour` isn't known at the top of a profile: `like`, [pins], [default], [[applet]] and tables of files are"]),
         ('EF_IMSI = "262019876543210"', ["line 2: `EF_IMSI` is text, and has to be a table: [EF_IMSI] and below it what the file holds"]),
         ('[pins]\nadm1 = { value = "1234" }', ["line 3: [pins] adm1 isn't known: it is called `adm`"]),
@@ -396,7 +474,12 @@ class Checking(unittest.TestCase):
         ("[EF_UST]\nservices = [10, 12, 19, 20, 21, 27, 33]",
          "7F10/6F3A EF.ADN is there, and its service 1 (local phone book) is off in EF.UST"),
         ("[EF_UST]\nservices = [1, 2, 10, 12, 19, 20, 21, 27, 33]",
-         "service 2 (fixed dialling numbers) is on in EF.UST, and no file of it is there: EF.FDN, EF.EST"),
+         "service 2 (fixed dialling numbers) is on in EF.UST, and no file of it is there: EF.FDN"),
+        # EF_EST is for fixed dialling and others, and says of none that it is there
+        ('["7F20/EF_EST"]\nservices = []\n[EF_UST]\nservices_on = [2, 34]', "service 2 (fixed dialling numbers) is on in EF.UST, and no file of it is there: EF.FDN"),
+        ('["7F20/EF_FDN"]\nentries = []\n[EF_UST]\nservices_on = [2]',
+         "service 2 (fixed dialling numbers) is on in EF.UST, and EF.EST isn't there, which says whether it is enabled"),
+        ("[EF_UST]\nservices_on = [34]", "service 34 (enabled services table) is on in EF.UST, and no file of it is there: EF.EST"),
         ('["7F10/EF_ADN"]\nlength = 13', "7F10/6F3A EF.ADN has 13 bytes a record, and should have at least 14"),
         ('[pins]\npin1 = { on = false }', "7F10/6F3A EF.ADN, rule 2F06:6, read, update: it asks for PIN 1, which is off, so that everybody "
                                          "may (and 15 more files go by it)"),
@@ -414,7 +497,8 @@ class Checking(unittest.TestCase):
 
     def test_pin_2_protects(self):
         """The template's PIN 2 is on, so that a rule by it says who may update."""
-        given = b'like = "usim"\n["7F20/EF_FDN"]\nentries = []\nupdate = "pin2"\n[EF_UST]\nservices = [1, 2, 10, 12, 19, 20, 21, 27, 33]\n'
+        given = b'like = "usim"\n["7F20/EF_FDN"]\nentries = []\nupdate = "pin2"\n["7F20/EF_EST"]\nservices = []\n' \
+                b'[EF_UST]\nservices = [1, 2, 10, 12, 19, 20, 21, 27, 33]\n'
         made = profile.made_in(given, "card.toml")
         card = lint.read(made.text).card
         self.assertTrue(card.pins[0x81].enabled)
@@ -486,6 +570,26 @@ class Command(unittest.TestCase):
             self.assertEqual(self.profile("build", given, "-o", script, "--force").returncode, 0)
             with open(script, encoding="utf-8") as built:
                 self.assertTrue(built.read().endswith("start\n"))
+
+    def test_lines_of_ones_own_before_start(self):
+        """A file, a PIN or an applet that somebody put into a script isn't lost where the script is built again."""
+        with tempfile.TemporaryDirectory() as folder:
+            given, script = os.path.join(folder, "card.toml"), os.path.join(folder, "card.script")
+            with open(given, "w", encoding="ascii") as out:
+                out.write('like = "usim"\n[EF_SPN]\nspn = "A"\n')
+            self.assertEqual(self.profile("build", given, "-o", script).returncode, 0)
+            with open(script, encoding="utf-8") as built:
+                text = built.read()
+            mine = text.replace("\nstart\n", "\nef 7F206F77 t 3 - -\nrow 3 1 010300\nstart\n")
+            with open(script, "w", encoding="utf-8") as out:
+                out.write(mine)
+            done = self.profile("build", given, "-o", script)
+            self.assertEqual((done.returncode, done.stdout), (2, ""))
+            self.assertEqual(done.stderr, f"profile: nothing is written: {script} describes 7F20/6F77, the applet on shelf 3, which the new script doesn't; "
+                             "--force writes over it\n")
+            with open(script, encoding="utf-8") as there:
+                self.assertEqual(there.read(), mine)
+            self.assertEqual(self.profile("build", given, "-o", script, "--force").returncode, 0)
 
     def test_a_tree_is_whole(self):
         """What is decoded goes on in a next line, and of other bytes a line is shown, or all."""

@@ -32,6 +32,8 @@ VERIFY_1, VERIFY_ADM = "002000010831323334FFFFFFFF", "0020000A083838383838383838
 # commands, the status of the last of them, and why it is answered so
 TABLE = [
     (["00B0820004"], "6982", "rule 2F06:2 asks for PIN 1 to read; PIN 1 isn't verified"),
+    ([VERIFY_ADM, "00D6810005" + "AA" * 5], "6B00", "5 bytes from offset 0 on, and the file has 4"),
+    ([VERIFY_ADM, "00A4000C022F01", "00D6000302AABB"], "6B00", "2 bytes from offset 3 on, and the file has 4"),
     ([VERIFY_1, "00D6820001AA"], "6982", "rule 2F06:2 asks for ADM1 to update; ADM1 isn't verified"),
     (["00B0830004"], "6982", "rule 2F06:3 asks for PIN 1 or ADM1 to read; PIN 1 isn't verified, ADM1 isn't verified"),
     ([VERIFY_1, "00D6830001AA"], "6982", "rule 2F06:3 asks for PIN 1 and ADM1 to update; ADM1 isn't verified"),

@@ -1373,7 +1373,7 @@ class Tool(unittest.TestCase):
                     before = open_lines(report)
                     done = tool(given, "--junit", report, *more)
                     self.assertEqual((done.returncode, done.stdout, done.stderr),
-                                     (2, "", f"sequence: nothing is written: {report} is what this is made of, and would be lost\n"))
+                                     (2, "", f"sequence: nothing is written: {report} is what this is made of, and would be lost: the result goes to another file\n"))
                     self.assertEqual(open_lines(report), before)
 
     def test_an_interruption(self):

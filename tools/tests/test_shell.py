@@ -91,6 +91,7 @@ class Shell(unittest.TestCase):
                 with open(name, "w", encoding="utf-8") as out:
                     out.write(text)
             self.assertEqual(shell("ls\n", profile, "--image", path).stderr, "")
+            self.assertEqual(shell("ls\n", profile, "--image", path).stderr, f"shell: {path} is there: its card is taken, and not that of {profile}\n")
             done = shell("ls\n", path)
             self.assertEqual((done.returncode, done.stderr), (0, f"shell: {path} is the image of a card, and is written: what is done here stays in it\n"))
             done = shell("ls\n", listed)

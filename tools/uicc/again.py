@@ -14,6 +14,10 @@ from . import process as simulator
 Ended = collections.namedtuple("Ended", "way otherwise other_answers")
 
 
+# how the statuses begin of a command that is done
+DONE = ("9000", "91", "61", "62")
+
+
 class Whole:
     """A script that is played with nothing cut: its lines, what they show, and what the card holds in the end."""
 
@@ -24,6 +28,11 @@ class Whole:
         self.once = self.begin.play([*self.lines, "reset"])
         if self.once.status != 0:
             raise simulator.Ended(self.once.trace[-1] if self.once.trace else "", self.once.status, self.once.said)
+
+    def refused(self):
+        """The lines of the script that are refused where nothing is cut, each with its status."""
+        return [(number, shown[-4:]) for number, shown in zip(self.places, self.once.trace)
+                if shown.startswith("< ") and not shown[-4:].startswith(DONE)]
 
     def stopped(self, sent):
         """Plays these lines, and then the whole script again. Where the card couldn't be reset in them, it is opened anew."""

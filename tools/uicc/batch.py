@@ -6,16 +6,19 @@ import io
 import itertools
 import os
 import subprocess
+import typing
 
 from . import checking, contents, fields, follow, forms, lint, names, process, profile
 from .coding import BadContent, is_blank
 
 # a column of the list, and the keys of a profile that it says; any other is called FILE:KEY
 COLUMNS = {
-    "iccid": ("EF_ICCID", "iccid"), "imsi": ("EF_IMSI", "imsi"), "spn": ("EF_SPN", "spn"),
+    "iccid": ("EF_ICCID", "iccid"), "imsi": ("EF_IMSI", "imsi"), "spn": ("EF_SPN", "name"),
     "pin1": ("pins", "pin1", "value"), "unblock1": ("pins", "pin1", "unblock"), "pin2": ("pins", "pin2", "value"),
     "unblock2": ("pins", "pin2", "unblock"), "adm": ("pins", "adm", "value"), "acc": ("EF_ACC", "acc"), "msisdn": ("EF_MSISDN", "number"),
 }
+# those that say a part of what a file holds, beside which the rest of it stays
+OF_PARTS = ("spn", "msisdn")
 # what lists of operators call some of them
 ALSO = {"puk1": "unblock1", "puk2": "unblock2"}
 # names of columns that others use
@@ -37,13 +40,29 @@ class BadList(Exception):
     """What is wrong with a list: a line for each thing."""
 
 
+class Rows(list):
+    """The rows of a list, each with its line, and a value for each column that isn't empty; `faults` are those lines that are no row."""
+
+    def __init__(self, rows, faults):
+        super().__init__(rows)
+        self.faults = faults
+
+
+class Doubt(typing.NamedTuple):
+    """What is doubtful in a batch, and the lines of the cards that it is of."""
+    lines: tuple
+    text: str
+
+
 class Card:
     """A row of the list, and the card that it becomes."""
 
     def __init__(self, line, values, made):
         self.line, self.values, self.made = line, values, made
         card = lint.read(made.text).card
-        self.found = list(checking.found(card, "usim" if follow.is_usim_card(card) else "sim"))
+        self.usim = follow.is_usim_card(card)
+        self.found = list(checking.found(card, "usim" if self.usim else "sim"))
+        self.sizes = {path: file.size for path, file in card.files.items() if file.structure == "t"}
         self.files = len(card.files) - 1
         # what it has in the end, whether its row says it or the profile
         self.own = own_of(card)
@@ -52,10 +71,9 @@ class Card:
     def name(self):
         return self.values["iccid"]
 
-    @property
-    def findings(self):
-        """What `check` tells of the card."""
-        return [finding.text for finding in self.found]
+    def warnings(self, doubts):
+        """What is doubtful in the card: what `check` tells of it, or else `build`, and what it shouldn't have like others."""
+        return ([finding.text for finding in self.found] or self.made.warnings) + [text for lines, text in doubts if self.line in lines]
 
 
 def own_of(card):
@@ -77,8 +95,7 @@ def pin_text(value):
 
 
 def rows_in(content, name, ignored=()):
-    """The rows of a list's bytes, each with its line, and a value for each column that isn't empty, but for columns that are ignored. BadList,
-    with all that is wrong."""
+    """The rows of a list's bytes, but for columns that are ignored. BadList, where its first line is wrong, or it has no row."""
     try:
         text = content.decode("utf-8-sig")
     except UnicodeDecodeError as fault:
@@ -95,15 +112,19 @@ def rows_in(content, name, ignored=()):
             if not any(cell.strip() for cell in cells):
                 continue
             if len(cells) != len(columns):
-                faults.append(f"{name}, line {reader.line_num}: it has {len(cells)} cells, and the first line {len(columns)}")
+                faults.append((reader.line_num, f"it has {len(cells)} cells, and the first line {len(columns)}"))
                 continue
             found.append((reader.line_num, {column: cell.strip() for column, cell in zip(columns, cells) if cell.strip() and column not in left_out}))
     except csv.Error as fault:
         raise BadList(f"{name}, line {reader.line_num}: {fault}") from None
-    faults += list(wrong_rows(found, name))
-    if faults or not found:
-        raise BadList("\n".join(faults) or f"{name} has no row of a card")
-    return found
+    if not found:
+        raise BadList(fault_lines(faults, name) or f"{name} has no row of a card")
+    return Rows(found, faults)
+
+
+def fault_lines(faults, name):
+    """Faults of lines of a list, in their order."""
+    return "\n".join(f"{name}, line {line}: {text}" for line, text in sorted(faults))
 
 
 def column_of(word):
@@ -174,66 +195,83 @@ def within_of(form, above=""):
     return found
 
 
-def wrong_rows(rows, name):
-    """What is wrong with the numbers of rows, alone and beside each other."""
-    for line, values in rows:
-        if "iccid" not in values:
-            yield f"{name}, line {line}: it has no iccid"
-            continue
+def wrong_numbers(values):
+    """What is wrong with the numbers of a row, by their columns."""
+    found = {}
+    if "iccid" not in values:
+        found["iccid"] = "it has no iccid"
+    else:
         try:
             contents.encode_iccid(values["iccid"])
         except BadContent as fault:
             rounded = ": a spreadsheet has rounded it, and its cells have to be of text" if "E+" in values["iccid"].upper() else ""
-            yield f"{name}, line {line}: iccid `{values['iccid']}`: {fault}{rounded}"
-        if "acc" in values and not all(word.isdecimal() and word.isascii() and int(word) <= 15 for word in values["acc"].split()):
-            yield f"{name}, line {line}: acc `{values['acc']}`: it is a class from 0 to 15, or several with spaces between them"
-    for column in ALIKE:
-        yield from (f"{name}, {text}" for text in alike(rows, column))
+            found["iccid"] = f"iccid `{values['iccid']}`: {fault}{rounded}"
+    if "acc" in values and not all(word.isdecimal() and word.isascii() and int(word) <= 15 for word in values["acc"].split()):
+        found["acc"] = f"acc `{values['acc']}`: it is a class from 0 to 15, or several with spaces between them"
+    return found
 
 
 def alike(rows, column):
-    """A line for each row that has the same in a column as an earlier one."""
+    """For each row that has the same in a column as an earlier one its line, and that it has."""
     first = {}
     for line, values in rows:
         value = values.get(column)
         if value is not None and first.setdefault(value, line) != line:
-            yield f"line {line}: its {column} {value} is that of line {first[value]}"
+            yield line, f"its {column} {value} is that of line {first[value]}"
 
 
-def doubts(made, rows, list_name, name):
-    """What cards have alike that each should have for itself, and what is doubtful in them, a line each."""
-    found = [f"{list_name}, {text}" for column in HARDLY_ALIKE for text in (*alike(rows, column), *alike_by_profile(made, column, name))]
+def doubts_of_alike(made, rows, name):
+    """What cards have alike that each should have for itself."""
+    for column in HARDLY_ALIKE:
+        yield from (Doubt((line,), text) for line, text in alike(rows, column))
+        yield from alike_by_profile(made, column, name)
+
+
+def doubts_told(made, alike_ones, list_name):
+    """What is doubtful in cards, a line each: what some have alike, and what is so of one alone."""
     by_text = {}
     for card in made:
         # what a run of the card has too is among the profile's warnings
         for text in (*card.made.warnings, *(finding.text for finding in card.found if not finding.is_of_rules)):
-            by_text.setdefault(text, []).append(card)
-    return found + [f"{list_name}, {lines_of(cards)}: {text}" for text, cards in by_text.items()]
+            by_text.setdefault(text, []).append(card.line)
+    return [f"{list_name}, {lines_of(lines)}: {text}" for lines, text in [*alike_ones, *((lines, text) for text, lines in by_text.items())]]
 
 
-def lines_of(cards):
-    lines = [str(card.line) for card in cards]
+def notes(made):
+    """A line for each file that isn't of the same size on all cards."""
+    sizes = {}
+    for card in made:
+        for path, size in card.sizes.items():
+            sizes.setdefault(path, set()).add(size)
+    for path, found in sizes.items():
+        if len(found) > 1:
+            shown = ", ".join(map(str, sorted(found)))
+            yield f"{names.shown(path, made[0].usim)} has {shown} bytes by what each card holds: `size` in the profile gives all the same"
+
+
+def lines_of(lines):
+    lines = [str(line) for line in lines]
     more = f" and {len(lines) - MOST_NAMED} more" if len(lines) > MOST_NAMED else ""
     return f"line{'s' * (len(lines) > 1)} {', '.join(lines[:MOST_NAMED])}{more}"
 
 
 def alike_by_profile(made, column, name):
-    """A line for what several cards have alike since the profile, called so, says it and not each row."""
+    """What several cards have alike since the profile, called so, says it and not each row."""
     groups = {}
     for card in made:
         if column in card.own:
             groups.setdefault(card.own[column], []).append(card)
     for value, alike_ones in groups.items():
         if len(alike_ones) > 1 and any(column not in card.values for card in alike_ones):
-            yield (f"{lines_of(alike_ones)}: their cards have the same {column}, {value}, which {name} or its template "
-                   f"says: a column `{column}` gives each its own")
+            yield Doubt(tuple(card.line for card in alike_ones), f"their cards have the same {column}, {value}, which {name} or its template says: "
+                        f"a column `{column}` gives each its own")
 
 
 def keys_of(values, base):
     """The profile that a row says, to be laid over another one."""
     found = {}
     for column, value in values.items():
-        if ":" in column or column == "msisdn":
+        if ":" in column or column in OF_PARTS:
             file, key = column.split(":", 1) if ":" in column else COLUMNS[column]
             lay_field(found, base, file, field_of(file, key), value)
             continue
@@ -271,11 +309,21 @@ def said_before(given, kind, file):
     try:
         content = fields.PLAIN[plain].encoded(given[plain], None)
         if kind.of_records:
-            return [kind.value(record) for record in (content if isinstance(content, list) else [content])]
-        return kind.value(content)
+            return [same_value(kind, record) for record in (content if isinstance(content, list) else [content])]
+        return same_value(kind, content)
     except (ValueError, KeyError, IndexError, TypeError):
         raise BadContent(f"[{file}] {plain}: no words say what these bytes do, and beside a part of it nothing else would stay: "
                          f"say it by `{kind.key}`") from None
+
+
+def same_value(kind, content):
+    """What bytes say, in words that say all of them: BadContent, where they say a part alone."""
+    value = kind.value(content)
+    again = kind.encoded([value] if kind.of_records else value, len(content))
+    again = again[0] if kind.of_records else again
+    if again.ljust(len(content), b"\xFF") != content:
+        raise BadContent("these bytes hold more than words say of them")
+    return value
 
 
 def with_field(form, told, within, value):
@@ -294,30 +342,37 @@ def with_field(form, told, within, value):
 def cards(content, name, rows, list_name, step):
     """The card of each row, over the profile of these bytes. BadList, with all rows that no card can be made of."""
     base = profile.tables_in(content, name)
-    found, faults = [], []
+    found, faults = [], [*rows.faults, *(fault for column in ALIKE for fault in alike(rows, column))]
     for line, values in rows:
+        wrong = wrong_numbers(values)
+        faults += [(line, text) for text in wrong.values()]
         try:
-            lines, warnings = profile.made(profile.merged(base, keys_of(values, base)))
+            said = {column: value for column, value in values.items() if column not in wrong}
+            lines, warnings = profile.made(profile.merged(base, keys_of(said, base)))
             found.append(Card(line, values, profile.Made(lines, [fault.reason for fault in warnings])))
         except profile.BadProfile as bad:
-            faults += [f"{list_name}, line {line}: {fault.reason}" for fault in bad.faults]
+            faults += [(line, fault.reason) for fault in bad.faults]
         except BadContent as fault:
-            faults.append(f"{list_name}, line {line}: {fault}")
+            faults.append((line, str(fault)))
         step()
-    if not faults:
-        faults = [f"{list_name}, {text}" for text in alike_by_profile(found, "imsi", name)]
     if faults:
-        raise BadList("\n".join(faults))
+        raise BadList(fault_lines(faults, list_name))
+    same = [f"{list_name}, {lines_of(lines)}: {text}" for lines, text in alike_by_profile(found, "imsi", name)]
+    if same:
+        raise BadList("\n".join(same))
     return found
 
 
-def write(made, folder, with_images, with_force, step):
+def write(made, folder, with_images, with_force, step, alike_ones=()):
     """A script for each card in a folder, and an image where they are wanted; then the report, whose path is answered. Cards that are
-    there are written over with force alone, and a report that is there stays beside the new one."""
+    there are written over with force alone, and a report that is there stays beside the new one. No script is written beside an image that
+    would stay as it was."""
     os.makedirs(folder, exist_ok=True)
     endings = (".script", ".img") if with_images else (".script",)
     if not with_force:
         refuse_to_lose([os.path.join(folder, card.name + ending) for card in made for ending in endings])
+    if not with_images:
+        refuse_older_images([os.path.join(folder, card.name + ".img") for card in made])
     for card in made:
         path = os.path.join(folder, card.name)
         with whole_file(path + ".script") as made_first, open(made_first, "w", encoding=process.ENCODING, errors="replace", newline="\n") as out:
@@ -332,7 +387,7 @@ def write(made, folder, with_images, with_force, step):
         writer.writerow(["script", "line", "iccid", "imsi", "files", "warnings"])
         for card in made:
             writer.writerow([card.name + ".script", card.line, card.values["iccid"], card.own.get("imsi", ""), card.files,
-                             "; ".join(card.findings)])
+                             "; ".join(card.warnings(alike_ones))])
     return report
 
 
@@ -340,8 +395,19 @@ def refuse_to_lose(paths):
     """BadList, where some of these files are there: it names them."""
     there = [path for path in paths if os.path.exists(path)]
     if there:
-        more = f" and {len(there) - MOST_NAMED} more" if len(there) > MOST_NAMED else ""
-        raise BadList(f"nothing is written: {', '.join(there[:MOST_NAMED])}{more} would be written over; --force does so")
+        raise BadList(f"nothing is written: {listed(there)} would be written over; --force does so")
+
+
+def refuse_older_images(paths):
+    """BadList, where some of these images are there: they would be of other cards than the new scripts beside them."""
+    there = [path for path in paths if os.path.exists(path)]
+    if there:
+        raise BadList(f"nothing is written: {listed(there)} would stay as the image of an earlier card; --images with --force writes it anew")
+
+
+def listed(paths):
+    more = f" and {len(paths) - MOST_NAMED} more" if len(paths) > MOST_NAMED else ""
+    return ", ".join(paths[:MOST_NAMED]) + more
 
 
 def report_paths(folder):

@@ -45,7 +45,7 @@ def records_described(path, given, entry, kind, short):
     length = length or max([least, *map(len, content)])
     count = given.get("count", max(1, len(content)))
     if len(content) > count:
-        raise BadContent(f"it has {len(content)} records, and room for {count}")
+        raise BadContent(f"it has {len(content)} records, and room for {count}: `count = {len(content)}`")
     if not length:
         raise BadContent("the length of its records is not said: `length = 28`")
     longest = max(map(len, content), default=0)

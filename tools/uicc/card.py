@@ -12,7 +12,7 @@ import contextlib
 import dataclasses
 import os
 
-from . import coding, contents, decode, described, fields, grammar, image, kept, kinds, layout, lint, names, process, profile, refusals, tlv
+from . import coding, contents, decode, described, dump, fields, grammar, image, keeping, kept, kinds, layout, lint, names, process, profile, refusals, tlv
 from .follow import Follower
 from .status import Status
 from .toolkit import MEMORY_PROBLEM, Toolkit, ToolkitNow
@@ -24,6 +24,8 @@ WARNINGS = ("6282", "6283")
 # the bytes that a command asks for at most, and those that it carries
 MOST, MOST_DATA = 256, 255
 PIN_LENGTH = 8
+# the structures of EFs: transparent, linear fixed, cyclic
+STRUCTURES = ("t", "l", "c")
 # the words of a script that plan a fault: of writes, and of reads
 CUT, FAIL, OF_READS = "cut", "fail", "readfail"
 OF_WRITES = (CUT, FAIL)
@@ -133,9 +135,11 @@ NO_ADF = "a card here has no ADF: the files of a USIM lie in 7F20, and those of 
 
 
 def as_bytes(content):
-    """Bytes, or hexadecimal digits with or without spaces between them."""
-    if not isinstance(content, str):
+    """Bytes, or hexadecimal digits with or without spaces between them. TypeError, where it is neither: a number is no bytes."""
+    if isinstance(content, (bytes, bytearray, memoryview)):
         return bytes(content)
+    if not isinstance(content, str):
+        raise TypeError(f"bytes are wanted, or hexadecimal digits as text, and not {content!r}")
     try:
         return bytes.fromhex(content)
     except ValueError:
@@ -174,6 +178,22 @@ def expect_number(what, number, least, most):
     if not isinstance(number, int) or not least <= number <= most:
         raise ValueError(f"{what} is a number from {least} to {most}, and not {number!r}")
     return number
+
+
+def expect_identifier(identifier):
+    """ValueError, where it is no identifier of a file."""
+    if not isinstance(identifier, str) or not dump.is_identifier(identifier):
+        raise ValueError(f"the identifier of a file is four hexadecimal digits as text, \"6F01\" say, and not {identifier!r}")
+
+
+def expect_rule(rule):
+    """The identifier of an EF_ARR and the number of a record, by both or by a text with a colon between them."""
+    parts = rule.split(":") if isinstance(rule, str) else rule
+    if parts is None:
+        return None
+    if len(parts) == 2 and isinstance(parts[0], str) and dump.is_identifier(parts[0]) and str(parts[1]).isdecimal() and 1 <= int(parts[1]) <= 0xFF:
+        return parts[0], int(parts[1])
+    raise ValueError(f"a rule is the identifier of an EF_ARR and the number of a record, (\"2F06\", 1) or \"2F06:1\", and not {rule!r}")
 
 
 class Card:
@@ -456,20 +476,23 @@ class Card:
 
     # what files hold, said as a profile says it
 
-    def write(self, name: str, record: int | None = None, **said) -> None:
+    def write(self, name: str, /, record: int | None = None, **said) -> None:
         """Selects a file and writes what one key says of it: card.write("EF.SPN", spn="Example"). A list of entries is written from record 1
-        on; with `record` one entry is: card.write("EF.ADN", 3, entries={"name": "Anna", "number": "110"})."""
+        on; with `record` one entry is: card.write("EF.ADN", 3, entries={"name": "Anna", "number": "110"}). Of a table that says some parts of
+        what the file holds the others stay: card.write("EF.AD", ad={"network_digits": 3}). ValueError, and nothing is written, where the file
+        has no room for it."""
         if len(said) != 1:
             raise ValueError("one key says what a file holds: card.write(\"EF.SPN\", spn=\"Example\")")
-        if record is not None:
-            record_number(record)
         (key, value), = said.items()
         file = self._selected(name)
+        self._expect_record(file, record)
         if key in profile.CHANGES_OF_SERVICES:
             key, value = "services", self._services(file, key, value)
-        content = fields.written(key, value, self._entry(file), file.length, record)
+        content = self._written(file, key, value, record)
         if (file.structure == "t") != isinstance(content, bytes):
             raise ValueError(f"{key} is of files {'with' if file.structure == 't' else 'without'} records, and {names.shown(file.path)} is none")
+        if file.structure != "t" and len(content) > file.count:
+            raise ValueError(f"nothing is written: {key} has {len(content)} entries, and {names.shown(file.path)} {file.count} records")
         if file.structure == "t":
             self.update_binary(content)
         elif file.structure == "c":
@@ -478,6 +501,30 @@ class Card:
         else:
             for number, one in enumerate(content, record or 1):
                 self.update_record(number, one)
+
+    def _written(self, file, key, value, record):
+        """What a key says of a file, with the parts that it doesn't name as the file has them: its bytes, or those of each record. What is added
+        to a cyclic file keeps nothing of a record."""
+        entry = self._entry(file)
+        if file.structure == "c" or not keeping.is_in_parts(key, value, entry):
+            return fields.written(key, value, entry, file.length, record)
+        with self._sparing(*OF_WRITES, OF_READS):
+            if file.structure == "t":
+                return keeping.written(key, value, entry, self.read_binary())
+            given = value if isinstance(value, list) else [value]
+            if record and len(given) > 1 or len(given) > file.count:
+                return fields.written(key, value, entry, file.length, record)
+            return [keeping.written(key, one, entry, self.read_record(number)) for number, one in enumerate(given, record or 1)]
+
+    def _expect_record(self, file, record):
+        """ValueError, where the number of a record is given and none of the file has it."""
+        if record is None:
+            return
+        record_number(record)
+        if file.structure == "t":
+            raise ValueError(f"{names.shown(file.path)} has no records, and so no record {record}")
+        if record > file.count:
+            raise ValueError(f"{names.shown(file.path)} has {file.count} records, and no record {record}")
 
     def _services(self, file, key, value):
         """The services of a file, once some of them are changed."""
@@ -490,6 +537,7 @@ class Card:
     def say(self, name: str, record: int | None = None) -> dict:
         """Selects a file, and answers what it holds as a profile says it: {"spn": "Example"}. Of a file with records that is of one."""
         file = self._selected(name)
+        self._expect_record(file, record)
         content = self.read_binary() if file.structure == "t" else self.read_record(record or 1)
         return dict([fields.said(content, self._entry(file))])
 
@@ -509,12 +557,24 @@ class Card:
 
     def create_df(self, identifier: str) -> Answer:
         """Makes a DF, which is the current one then."""
+        expect_identifier(identifier)
         return self._create(decode.NewFile(decode.KIND_OF[None], identifier, None, 0, 0, None, None))
 
     def create_ef(self, identifier: str, structure: str = "t", length: int = 1, count: int = 1, short: int | None = None,
-                  rule: tuple[str, int] | None = None) -> Answer:
+                  rule: tuple[str, int] | str | None = None) -> Answer:
         """Makes an EF, which is the current one then: of so many records of a length, or transparent, of that length. `rule` is the
-        identifier of an EF_ARR and the number of a record."""
+        identifier of an EF_ARR and the number of a record, ("2F06", 1) or "2F06:1"."""
+        expect_identifier(identifier)
+        if structure not in STRUCTURES:
+            raise ValueError(f"the structure of an EF is {', '.join(map(repr, STRUCTURES))}, and not {structure!r}")
+        if structure == "t":
+            expect_number("the length of a transparent EF", length, 1, 0xFFFF)
+        else:
+            expect_number("the length of a record", length, 1, 0xFF)
+            expect_number("the count of records", count, 1, 0xFE)
+        if short is not None:
+            expect_number("an SFI", short, 0, 30)
+        rule = expect_rule(rule)
         return self._create(decode.NewFile(decode.KIND_OF[structure], identifier, structure, length, count, short, rule))
 
     def _create(self, made):
@@ -522,12 +582,13 @@ class Card:
 
     def delete_file(self, identifier: str) -> Answer:
         """Deletes a file of the current DF."""
+        expect_identifier(identifier)
         return self._command(decode.DELETE_FILE, 0, 0, bytes.fromhex(identifier))
 
     def resize_file(self, identifier: str, size: int) -> Answer:
         """Gives a transparent EF another size: it keeps its first bytes, and those that come are FF."""
-        if not 0 <= size < 1 << 16:
-            raise ValueError(f"a size is told by two bytes: {size}")
+        expect_identifier(identifier)
+        expect_number("a size", size, 0, 0xFFFF)
         return self._command(decode.RESIZE_FILE, 0, 0, bytes.fromhex(identifier) + size.to_bytes(2, "big"), toolkit=True)
 
     # PINs

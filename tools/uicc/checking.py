@@ -10,6 +10,8 @@ READ_BY_ALL = {("2F00",), ("2F05",), ("2F06",), ("2FE2",), ("7F20", "6F46"), ("7
 TELECOM, IMSI, ACC = ("7F10",), ("7F20", "6F07"), ("7F20", "6F78")
 # administrative data, and the networks that are the subscriber's own
 AD, HOME = ("7F20", "6FAD"), ("7F20", "6F62")
+# the file that says which of the services for fixed dialling, barred dialling and access points are enabled (3GPP TS 31.102, 4.2.47)
+ENABLED = "EF.EST"
 # the service table of a kind of card
 TABLES = {"usim": (("7F20", "6F38"), "ust"), "sim": (("7F20", "6F38"), "sst")}
 
@@ -166,6 +168,10 @@ def wrong_services(card, kind):
         yield Finding(f"{told} on in {name}, and the standard's list ends with {len(known)}", (path,))
     there = {entry["name"] for _, entry in here}
     for number in sorted(on.intersection(files_for)):
-        if not there.intersection(files_for[number]):
-            few = list(dict.fromkeys(files_for[number]))[:3]
+        # a file of several services is none of one of them alone
+        own = [one for one in files_for[number] if one != ENABLED] or files_for[number]
+        if not there.intersection(own):
+            few = list(dict.fromkeys(own))[:3]
             yield Finding(f"service {number} ({known[number - 1]}) is on in {name}, and no file of it is there: {', '.join(few)}", (path,))
+        elif ENABLED in files_for[number] and ENABLED not in there:
+            yield Finding(f"service {number} ({known[number - 1]}) is on in {name}, and {ENABLED} isn't there, which says whether it is enabled", (path,))

@@ -277,7 +277,10 @@ def services(given, kind):
             yield one
             continue
         word = str(one).lower()
-        number = known.get(word) or service_of_file(str(one), kind)
+        several = services_of_file(str(one), kind)
+        number = known.get(word) or (several[0] if len(several) == 1 else None)
+        if number is None and several:
+            raise BadContent(f"`{one}` is a file of {len(several)} services, {' and '.join(map(str, several))}: by its number or its name one is told")
         if number is None:
             meant = difflib.get_close_matches(word, known, 1)
             raise BadContent(f"`{one}` is no service by number or name" + (f", but `{table('files')[kind][known[meant[0]] - 1]}` is" if meant else "")
@@ -285,11 +288,9 @@ def services(given, kind):
         yield number
 
 
-def service_of_file(word, kind):
-    """The service that a standard file is for, by the file's name; None where it is for none, or for one of several."""
-    needs = {tuple(entry.get("needs", {}).get(kind, ())) for entry in by_name(word)} - {()}
-    found = needs.pop() if len(needs) == 1 else ()
-    return found[0] if len(found) == 1 else None
+def services_of_file(word, kind):
+    """The numbers of the services that a standard file is for, by the file's name."""
+    return sorted({number for entry in by_name(word) for number in entry.get("needs", {}).get(kind, ())})
 
 
 def encode_ust(given, size=None, kind="ust"):
@@ -474,13 +475,49 @@ DECODERS = {
 }
 
 
+# the protection schemes that take a key of the home network: their profiles, and the bytes of a key (3GPP TS 33.501, C.3.4)
+PROFILES = {1: ("A", (32,)), 2: ("B", (33, 65))}
+# how the keys of profile B begin, by their length: compressed, or both coordinates (SEC 1, 2.3.3)
+POINTS = {33: ("02", "03"), 65: ("04",)}
+
+
+def check_suci(content):
+    """BadContent, where a protection scheme has no key that fits it, or two keys have one identifier."""
+    found = structured.concealing_of(content)
+    identifiers = [one["id"] for one in found["keys"]]
+    wrong = [f"two keys have the identifier {one}" for one in dict.fromkeys(identifiers) if identifiers.count(one) > 1]
+    wrong += [text for one in found["schemes"] if (text := wrong_key(one["scheme"], one["key"], found["keys"]))]
+    if wrong:
+        raise BadContent("; ".join(wrong))
+
+
+def wrong_key(scheme, place, keys):
+    """Why the key at a place of the list, the first one is 1, is none for a protection scheme; None where it is."""
+    if scheme not in PROFILES:
+        return f"scheme {scheme} takes the key {place}, and the list has {len(keys)}" if place > len(keys) else None
+    name, sizes = PROFILES[scheme]
+    if not 1 <= place <= len(keys):
+        return f"scheme {scheme} (profile {name}) takes the key {place}, and the list has {len(keys) or 'none'}"
+    key = keys[place - 1]["key"]
+    size = len(key) // 2
+    if size not in sizes:
+        return f"scheme {scheme} (profile {name}) takes a key of {' or '.join(map(str, sizes))} bytes, and that at place {place} has {size}"
+    if scheme == 2 and not key.startswith(POINTS[size]):
+        return f"the key at place {place}, for scheme 2 (profile B), begins with {key[:2]}, and one of {size} bytes with {' or '.join(POINTS[size])}"
+    return None
+
+
 # what is said of contents that can be read, and that are hardly right
-CHECKS = {"iccid": check_iccid, "imsi": check_imsi, "ecc": check_ecc}
+CHECKS = {"iccid": check_iccid, "imsi": check_imsi, "ecc": check_ecc, "suci": check_suci}
+
+
+# those that a blank content is told to, too
+OF_BLANK = ("iccid", "imsi", "ecc")
 
 
 def check(kind, content):
     """BadContent, where the bytes of this kind can be read and are hardly right."""
-    if kind in CHECKS:
+    if kind in CHECKS and (kind in OF_BLANK or not is_blank(content)):
         CHECKS[kind](bytes(content))
 
 

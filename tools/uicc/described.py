@@ -32,7 +32,8 @@ def of(given) -> Source:
         return of_profile(path)
     with open(path, "rb") as file:
         content = file.read()
-    return Source(IMAGE, path) if image.is_image(content) else Source(SCRIPT, path, content.decode(process.ENCODING))
+    # a text has no byte 00: such a file is an image, or what is left of one, of which is said what it lacks
+    return Source(IMAGE, path) if image.is_image(content) or b"\0" in content else Source(SCRIPT, path, content.decode(process.ENCODING))
 
 
 def of_text(text) -> Source:

@@ -166,11 +166,18 @@ class Export:
             try:
                 self.line(line.strip())
             except Unread as fault:
-                if self.file:
-                    self.file.bad = True
-                self.faults.append(f"line {number}{f', {self.file.name}' if self.file else ''}: {fault}")
+                self.faults.append(f"line {number}{f', {self.file.name}' if self.file else ''}: {fault}{self.left_out(line.strip())}")
         self.faults += [f"{file.name}: nothing is told of what it holds" for file in self.files if not file.is_told() and not file.bad]
         self.files = [file for file in self.files if not file.bad and file.is_told()]
+
+    def left_out(self, line):
+        """What of a file goes with a line that isn't read: of EF_ARR a record, whose rule no file has then, and of any other one the whole file."""
+        if self.file is None:
+            return ""
+        if line.startswith("update_record") and self.file.name.upper().endswith("EF.ARR"):
+            return "; the record is left out"
+        self.file.bad = True
+        return "; the file is left out"
 
     def line(self, line):
         if line == "#":

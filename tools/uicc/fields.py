@@ -209,6 +209,8 @@ def kind_for(key, entry):
 
 def about_unknown(key, entry):
     """What is said of a key that no file is told by."""
+    if key == "like":
+        return "isn't known in a table: `like = \"usim\"` stands at the top of a profile, before the first table"
     own = KINDS.get(entry.get("content")) if entry else None
     meant = forms.near(key, KEYS)
     if own and (meant in (own.key, None) or key in getattr(own.form, "keys", ())):
@@ -245,10 +247,12 @@ def written(key, value, entry, size, record=None):
 def said(content, entry):
     """The key and the value by which a profile says what a transparent file or a record holds; in hexadecimal digits where no words do."""
     kind = KINDS.get(entry.get("content")) if entry else None
-    if kind and kind.value and not contents.is_blank(content):
+    is_blank = contents.is_blank(content)
+    if kind and kind.value and (not is_blank or not kind.of_records):
         try:
             value = kind.value(content)
-            if kind.form.wrong([value] if kind.of_records else value) is None:
+            # of a blank file words say alone that a list is empty
+            if (not is_blank or value == []) and kind.form.wrong([value] if kind.of_records else value) is None:
                 return kind.key, value
         except (ValueError, KeyError, IndexError):
             pass

@@ -215,5 +215,5 @@ def short_identifier(apdu):
 
 
 def is_usim_card(card):
-    """Whether 7F20 is a USIM's: a card with EF.DIR has one, or with a file of the MF or of it that only a USIM has."""
-    return ("2F00",) in card.files or ("7F20", "6F08") in card.files or ("7F20", "6F20") not in card.files
+    """Whether 7F20 of a card is a USIM's."""
+    return names.is_usim(card.files)

@@ -221,14 +221,25 @@ def number(name, word, least, most):
     return int(word)
 
 
+def in_characters(word, size):
+    """The bytes of a PIN whose digits were written in the place of them; nothing where none were."""
+    digits = word
+    if len(word) % 2 == 0 and len(word) >= 8 and all(0x30 <= byte <= 0x39 for byte in bytes.fromhex(word)):
+        digits = bytes.fromhex(word).decode()
+    if not digits.isdecimal() or not 4 <= len(digits) <= size:
+        return ""
+    coded = digits.encode().ljust(size, b"\xFF")
+    return f": the PIN {digits} is {coded.hex().upper()}"
+
+
 def hexadecimal(name, word, most, exactly=None):
     if not re.fullmatch("[0-9A-Fa-f]*", word):
         other = re.search("[^0-9A-Fa-f]", word).group()
         raise Wrong(f"{name} has hexadecimal digits alone, and no `{other}`")
+    if exactly is not None and len(word) != 2 * exactly:
+        raise Wrong(f"{name} is {exactly} bytes, which is {2 * exactly} digits, and not {len(word)}{in_characters(word, exactly)}")
     if len(word) % 2 or not word:
         raise Wrong(f"{name} has an even number of digits, at least two, and not {len(word)}")
-    if exactly is not None and len(word) != 2 * exactly:
-        raise Wrong(f"{name} is {exactly} bytes, which is {2 * exactly} digits, and not {len(word) // 2}")
     if len(word) > 2 * most:
         raise Wrong(f"{name} has at most {most} bytes, and not {len(word) // 2}")
     return bytes.fromhex(word)

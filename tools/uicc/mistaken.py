@@ -21,6 +21,15 @@ OF_SEQUENCE = re.compile(rb"sequence [^=]*")
 OF_TRACE = re.compile(rb"[<>] [0-9A-Fa-f]+\s*|! (?:reset|cut|off)\s*|\* .*|@ [0-9]+\.[0-9]{6}\s*")
 
 
+# what Notepad and other programs put before a text in UTF-8
+BYTE_ORDER_MARK = b"\xEF\xBB\xBF"
+
+
+def is_profile(content):
+    """Whether a file's bytes begin as a profile's do."""
+    return OF_PROFILE.match(content.removeprefix(BYTE_ORDER_MARK)) is not None
+
+
 class Mistaken(Exception):
     """A file is of another kind than the one that is wanted."""
 
@@ -29,7 +38,7 @@ def kind_of(content):
     """Of which kind a file's bytes are; None where they show none."""
     if content[:4] == b"UICC" or len(content) in (image.JOURNAL_SIZE, image.PAGES_SIZE) and b"\0" in content:
         return IMAGE
-    content = content.removeprefix(b"\xEF\xBB\xBF")
+    content = content.removeprefix(BYTE_ORDER_MARK)
     lines = (line.strip() for line in content.splitlines())
     first = next((line for line in lines if line and not line.startswith(b"#")), b"")
     if b"iccid" in [cell.strip(b' "').lower() for cell in re.split(rb"[,;\t]", first)] and OF_PROFILE.match(first) is None:
@@ -37,7 +46,7 @@ def kind_of(content):
     for kind, form in ((SCRIPT, OF_SCRIPT), (TRACE, OF_TRACE), (SEQUENCE, OF_SEQUENCE)):
         if form.fullmatch(first):
             return kind
-    return PROFILE if OF_PROFILE.match(content) else None
+    return PROFILE if is_profile(content) else None
 
 
 def expect(content, path, *wanted):

@@ -56,6 +56,11 @@ def files_of(identifier):
     return [entry for entry in table("files")["files"] if entry["id"] == identifier]
 
 
+def is_usim(paths):
+    """Whether 7F20 is a USIM's on a card with files at these paths: EF.DIR is there, or a file of the MF or of it that only a USIM has."""
+    return ("2F00",) in paths or ("7F20", "6F08") in paths or ("7F20", "6F20") not in paths
+
+
 def places(folder, usim=True):
     """What a folder may hold the standard files of, the likeliest first: those of a DF go by its name."""
     if not folder:

@@ -23,6 +23,8 @@ SHAPE = ("size", "length", "count", "cyclic")
 BY_IMSI = "imsi"
 # what a table of services says of a few of them
 CHANGES_OF_SERVICES = ("services_on", "services_off")
+# the key Kc of a SIM
+KC = ("7F20", "6F20")
 # what a reason says of the lines of a script
 OF_SCRIPT = re.compile(r" \(line \d+\)")
 
@@ -190,8 +192,7 @@ def judged(profile, is_part=False, own=()):
     profile, faults = with_class_by_imsi(profile)
     profile, more = with_services(profile)
     faults += [*more, *faults_at_top(profile)]
-    tables = [(name, value) for name, value in profile.items() if is_file_table(name, value)]
-    usim = is_usim(path for name, _ in tables if (path := path_or_none(name)))
+    tables, usim = tables_of_files(profile), is_usims(profile)
     for name, value in tables:
         found = list(faults_of_file(name, value, usim))
         faults += found + list(faults_beside(name, value, found, usim))
@@ -202,8 +203,31 @@ def judged(profile, is_part=False, own=()):
     bad, doubtful = findings_in(script, builder.origins)
     spoilt = {part_of(fault.path) for fault in faults}
     faults += [fault for fault in bad if not is_part and part_of(fault.path) not in spoilt]
-    doubtful += [] if faults else faults_by_standard(script.card, own, usim)
+    doubtful += [] if faults else [*faults_by_standard(script.card, own, usim), *faults_of_kind(dict(own), usim)]
     return builder.lines, builder.doubts + doubtful, faults
+
+
+def tables_of_files(profile):
+    return [(name, value) for name, value in profile.items() if is_file_table(name, value)]
+
+
+def is_usims(profile):
+    """Whether a profile is of a USIM, by the files of its tables."""
+    return is_usim(path for name, _ in tables_of_files(profile) if (path := path_or_none(name)))
+
+
+def faults_of_kind(own, usim):
+    """A fault for each table that has the name of a file which the other kind of card has at its place, as EF_SST has that of a USIM's EF_UST;
+    and for the key Kc of a SIM, where a profile of a USIM names it."""
+    one, other = ("USIM", "SIM") if usim else ("SIM", "USIM")
+    for name, _ in tables_of_files(own):
+        path, named = path_or_none(name), names.by_name(name.rpartition("/")[2])
+        entry = names.file(path, usim) if path else None
+        if entry and entry not in named and names.file(path, not usim) in named:
+            yield Fault((name,), f"{shown_name(name)} is a file of a {other}, and this card is a {one}'s: it is taken for its "
+                                 f"[{entry['name'].replace('.', '_')}], which is at that place")
+        if usim and path == KC:
+            yield Fault((name,), f"{shown_name(name)} is that of a SIM, {'/'.join(KC)}: a USIM's is [\"5F3B/EF_Kc\"], in DF.GSM-ACCESS")
 
 
 def with_class_by_imsi(profile):
@@ -222,19 +246,18 @@ def with_class_by_imsi(profile):
 def with_services(profile):
     """A profile whose services are all told by `services`: where a table of a file says `services_on` or `services_off`, the others stay
     as they are. And what is wrong with those words."""
-    found, faults = {}, []
-    for name, given in profile.items():
-        if is_file_table(name, given) and any(key in given for key in CHANGES_OF_SERVICES) and path_or_none(name):
-            found[name], more = services_changed(name, given)
+    found, faults, usim = {}, [], is_usims(profile)
+    for name, given in tables_of_files(profile):
+        if any(key in given for key in CHANGES_OF_SERVICES) and path_or_none(name):
+            found[name], more = services_changed(name, given, usim)
             faults += more
     return {**profile, **found}, faults
 
 
-def services_changed(name, given):
+def services_changed(name, given, usim):
     """The table of a file with all its services, and what is wrong with the change of them. It grows where it has no room for one."""
     kept, faults, changes = {key: value for key, value in given.items() if key not in CHANGES_OF_SERVICES}, [], {}
-    path = path_of(name)
-    kind = (names.file(path, True) or names.file(path, False) or {}).get("content")
+    kind = (names.file(path_of(name), usim) or {}).get("content")
     for key in filter(given.__contains__, CHANGES_OF_SERVICES):
         try:
             changes[key] = numbers_of(key, given[key], kind)
@@ -348,5 +371,5 @@ def without(profile, paths):
 
 
 def is_usim(paths):
-    """Whether files at these paths are a USIM's: one of GSM has the key Kc."""
-    return not any(path == ("7F20", "6F20") for path in paths)
+    """Whether files at these paths are a USIM's."""
+    return names.is_usim(set(paths))

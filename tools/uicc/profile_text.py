@@ -39,7 +39,7 @@ class Writer:
     def _file(self, file):
         if file.path in self.comments:
             yield "# " + dump.printable(self.comments[file.path])
-        yield f"[{table_name(file.path)}]"
+        yield f"[{table_name(file.path, self.usim)}]"
         if file.is_df:
             yield "folder = true"
         elif file.path == profile.ARR:
@@ -138,9 +138,9 @@ def digits_of(content):
 
 # files
 
-def table_name(path):
+def table_name(path, usim):
     """The name of a file's table: with the standard name of the file where it has one that leads there."""
-    words = [names.name_of(path).replace(".", "_"), path[-1]]
+    words = [names.name_of(path, usim).replace(".", "_"), path[-1]]
     wholes = [name for word in words for name in ((word, "MF/" + word) if len(path) == 1 else ("/".join((*path[:-1], word)),))]
     whole = next(name for name in wholes if profile.path_or_none(name) == path)
     return located.written(whole) if "/" in whole else whole

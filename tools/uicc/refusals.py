@@ -4,7 +4,7 @@ import re
 
 from . import decode, follow, layout, names, rules, tlv
 
-STATUSES = ("6700", "6982", "6985", "6A80", "6A84", "6A89")
+STATUSES = ("6700", "6982", "6985", "6A80", "6A84", "6A89", "6B00")
 KEY_WORD = r"\b(?:" + "|".join(rules.KEYS) + r")\b"
 ADM = 0x0A
 DEACTIVATE, ACTIVATE, ENABLE = 0x04, 0x44, 0x28
@@ -28,6 +28,8 @@ def reason(follower, apdu, status, card=None):
         return of_conditions(follower, apdu, card)
     if status == "6A84":
         return of_room(follower, apdu, card)
+    if status == "6B00":
+        return of_offset(follower, apdu, card)
     if status == "6A89":
         return of_doubles(follower, apdu, card)
     return of_form(apdu, status)
@@ -126,6 +128,17 @@ def of_doubles(follower, apdu, card):
         return f"{names.shown(path, follower.usim)} is there already"
     other = next((file for file in card.children(path[:-1]) if made.short and file.short == made.short), None)
     return other and f"{names.shown(other.path, follower.usim)} has the SFI {made.short}"
+
+
+# 6B00
+
+def of_offset(follower, apdu, card):
+    """Which bytes UPDATE BINARY would have written, and how many the file has."""
+    file = card.files.get(follower.target(apdu)) if card else None
+    if apdu.ins != decode.UPDATE_BINARY or file is None or file.structure != "t":
+        return None
+    offset = apdu.p2 if apdu.p1 & 0x80 else apdu.p1 << 8 | apdu.p2
+    return f"{len(apdu.data)} bytes from offset {offset} on, and the file has {file.size}"
 
 
 # 6A80 and 6700

@@ -1,29 +1,54 @@
 """Which file a result may be written over: one that would be made anew all the same, and none that somebody's work is in."""
 import os
 
-from . import mistaken, process
+from . import lint, mistaken, names, process
 
 
-class Kept(Exception):
+# how the bytes of what programs make begin: a picture, a capture (pcapng), a report in XML
+PICTURE, CAPTURE, REPORT = (b"<svg",), (b"\x0A\x0D\x0D\x0A",), (b"<?xml",)
+
+
+# how many are named that would be lost
+MOST_NAMED = 5
+
+
+class Kept(mistaken.Mistaken):
     """A file stays as it is: something would be lost."""
 
 
-def expect_other(path, *sources):
-    """Kept, where a result would be written over a file that it is made of. A source that isn't named is None."""
-    for source in filter(None, sources):
-        if os.path.isfile(path) and os.path.exists(source) and os.path.samefile(path, source):
-            raise Kept(f"nothing is written: {path} is what this is made of, and would be lost")
+def expect_result(path, begins, *sources):
+    """Kept, where what is made would be written over one of its sources, or over a file that doesn't begin as an earlier result does, with one of
+    these; None stands for a trace. A file with nothing in it is free."""
+    if path is None or not os.path.isfile(path):
+        return
+    if any(source and os.path.exists(source) and os.path.samefile(path, source) for source in sources):
+        raise Kept(f"nothing is written: {path} is what this is made of, and would be lost: the result goes to another file")
+    with open(path, "rb") as there:
+        content = there.read()
+    if content and not (mistaken.kind_of(content) == mistaken.TRACE if begins is None else content.startswith(begins)):
+        kind = mistaken.kind_of(content)
+        what = mistaken.ABOUT[kind][0] if kind else "no earlier result"
+        raise Kept(f"nothing is written: {path} is {what}, and would be lost: the result goes to another file")
+
+
+def expect_described(path, lines, text):
+    """Kept, where a script describes a file, a PIN or an applet that the new one hasn't: a line for it was put in by hand, or the profile had it."""
+    old, new = (lint.read("".join(line + "\n" for line in each)).card for each in (lines, text.splitlines()))
+    gone = [names.shown(one, names.is_usim(old.files)) for one in old.files if one not in new.files]
+    gone += [names.key(key) for key in old.pins if key not in new.pins]
+    gone += [f"the applet on shelf {shelf}" for shelf in old.rows if shelf not in new.rows]
+    if gone:
+        more = f" and {len(gone) - MOST_NAMED} more" if len(gone) > MOST_NAMED else ""
+        raise Kept(f"nothing is written: {path} describes {', '.join(gone[:MOST_NAMED])}{more}, which the new script doesn't; --force writes over it")
 
 
 def expect_free(path, text, source):
     """Kept, where a result would be written over what it is made of, or over a file that holds something else. Of a script that a profile was
-    built to, all before `start` is made anew; so one with nothing after it may go."""
+    built to, all before `start` is made anew; so one with nothing after it may go, where the new one has all files, PINs and applets of it."""
     if not os.path.isfile(path):
         return
-    try:
-        expect_other(path, source)
-    except Kept as fault:
-        raise Kept(f"{fault}; --force writes over it") from None
+    if os.path.samefile(path, source):
+        raise Kept(f"nothing is written: {path} is what this is made of, and would be lost; --force writes over it")
     with open(path, "rb") as there:
         content = there.read()
     if content == text.encode():
@@ -32,6 +57,8 @@ def expect_free(path, text, source):
         raise Kept(f"nothing is written: {path} would be written over; --force does so")
     lines = process.lines_in(content.decode(process.ENCODING))
     steps = process.card_section(lines)[1]
-    if any(steps):
+    if not any(steps):
+        expect_described(path, lines, text)
+    else:
         raise Kept(f"nothing is written: {path} has lines after `start` ({len(steps)}), which would be lost; --force writes over them. Kept in a file "
                    "of their own, they are put after a script that is built by `cat`")

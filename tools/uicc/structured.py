@@ -99,7 +99,8 @@ def encode_parameters(given, length):
     if length < PARAMETERS:
         raise BadContent(f"a record of parameters has at least {PARAMETERS} bytes, and not {length}")
     name = coded_text(given.get("name", ""), length - PARAMETERS).ljust(length - PARAMETERS, b"\xFF")
-    told = [key in given for key in ("destination", "centre", "protocol", "coding", "validity")]
+    # an address that is empty is none
+    told = [given.get(key, "") != "" for key in ("destination", "centre", "protocol", "coding", "validity")]
     if not any(told) and not given.get("name"):
         return b"\xFF" * length
     indicators = 0xFF & ~sum(1 << place for place, there in enumerate(told) if there)
