@@ -285,6 +285,27 @@ class Expect(unittest.TestCase):
                      "4 cases, 3 runs, 1 differ, 1 skipped"):
             self.assertIn(part, done.stdout)
 
+    def test_a_faulty_line_is_told(self):
+        """What `line N` says, and by which word the script would be played to its end."""
+        with open(self.program, "w", encoding="ascii") as out:
+            out.write("#!/bin/sh\ncat > /dev/null\necho line 2\nexit 2\n")
+        for text, told in (("start\nuser ok\n#* menu 1\n", ["`line 2` says that the script ends there, at a faulty line: this line is for a handset",
+                                                           "as a script for `phone` it has no faulty line: --phone\n"]),
+                           ("start\naapdu 00A4000C02\n#< 9000\n", ["at a faulty line: no line begins with `aapdu`: apdu HEX\n"])):
+            with self.subTest(text=text):
+                done = self.expect(self.put("script", text))
+                self.assertEqual(done.returncode, 1)
+                for part in told:
+                    self.assertIn(part, done.stdout)
+                self.assertEqual("--phone" in done.stdout, len(told) > 1)
+
+    def test_comments_that_look_like_what_is_expected(self):
+        path = self.put("script", "start\n# < 5 items\n# ..\napdu 00A4000C02\n# < 9110\n#< 9000\n")
+        done = self.expect(path)
+        self.assertEqual((done.returncode, done.stderr.splitlines()), (0, [
+            f"expect: {path}:3: `# ..` is a comment, and expects nothing: `#..` does",
+            f"expect: {path}:5: `# < 9110` is a comment, and expects nothing: `#< 9110` does"]))
+
     def test_reports(self):
         report = os.path.join(self.folder, "report.xml")
         done = self.expect(self.put("a.cases", FILE), "--tap", "--junit", report)

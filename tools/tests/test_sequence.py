@@ -134,6 +134,10 @@ class Files(unittest.TestCase):
         self.assertEqual([sequence.has(profile, need) for need in ("byte 9 bit 6", "byte 9 bit 5", "byte 10 bit 1", "DISPLAY TEXT")],
                          [True, False, False, False])
 
+    def test_a_time_that_is_left_open(self):
+        left = read("command TIMER MANAGEMENT qualifier 02 timer 1", "response result 00 timer 1 time any")[0].steps[1].objects[-1]
+        self.assertEqual([left.fits(True, bytes.fromhex(value)) for value in ("503214", "5032")], [True, False])
+
     def test_commands_without_a_response(self):
         """They are refused: whatever the terminal answered, such a sequence would pass."""
         lines = ("command MORE TIME", "command MORE TIME", "response result 00", "command REFRESH qualifier 04", "restart")
@@ -148,6 +152,10 @@ class Files(unittest.TestCase):
         ("command SELECT", "`SELECT` is no command: is `SELECT ITEM` meant?"), ("command GET text A", "`GET text"),
         ("command LANGUAGE NOTIFY", "is `LANGUAGE NOTIFICATION` meant?"), ("command display text text A", "is `DISPLAY TEXT` or `DISPLAY MULTIMEDIA MESSAGE` meant?"),
         ("command DISPLAY TEXT txt \"A\"", "`txt` is no object: is `text` meant?"),
+        ("response from network result 00", "`from` is no object: `from DEVICE` stands before the objects"),
+        ("envelope event events 04 from keypad", "as in `envelope event from display events idle-screen`"),
+        ("response devices 8381 result 00", "`devices` is no object: device identities are `object 82 8281`"),
+        ("command TIMER MANAGEMENT qualifier 00 timer 1 time any", "a command is given as it is"),
         ("command DISPLAY TEXT alpha-id \"A\"", "`alpha-id` is no object: is `alpha"),
         ("command DISPLAY TEXT text \"A", "quotes come in pairs"),
         ("command DISPLAY TEXT text", "the text is missing"),
