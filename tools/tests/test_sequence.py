@@ -168,7 +168,7 @@ class Files(unittest.TestCase):
         ("command DISPLAY TEXT without text", "`text` is no part that a command may be without"),
         ("command SET UP MENU item 0 \"A\"", "the number of an item is 1 to 255, not 0"),
         ("command PLAY TONE duration 1 hours", "a duration is in minutes, seconds or tenths, not in hours"),
-        ("command TIMER MANAGEMENT time 1:00", "a time is HH:MM:SS, not 1:00"),
+        ("command TIMER MANAGEMENT time 1:00", "a time is HH:MM:SS, or any, not 1:00"),
         ("command SET UP EVENT LIST events rain", "`rain` is no event, nor a code of two digits"),
         ("command SET UP CALL address 12a", "a number that is dialled is"),
         ("command PROVIDE LOCAL INFORMATION language EN", "a language is two letters, not EN"),
