@@ -6,6 +6,7 @@ import shutil
 import subprocess
 import sys
 import tempfile
+import time
 import types
 import unittest
 import unittest.mock
@@ -215,9 +216,9 @@ class Manager(unittest.TestCase):
 
 
 class Tool(unittest.TestCase):
-    def ran(self, *words, **environment):
+    def ran(self, *words, text="", **environment):
         words = [sys.executable, "-B", os.path.join(TOOLS, "ofono"), *words]
-        return subprocess.run(words, input="", capture_output=True, text=True, timeout=300, check=False, env={**os.environ, **environment})
+        return subprocess.run(words, input=text, capture_output=True, text=True, timeout=300, check=False, env={**os.environ, **environment})
 
     def test_what_is_refused(self):
         self.assertIn("--keep is for what is tried", self.ran("card.script", "--keep", "x").stderr)
@@ -264,6 +265,13 @@ class Tool(unittest.TestCase):
             with open(path, "w", encoding="ascii") as out:
                 out.write("pin 01 31323334FFFFFFFF on 3132333435363738\nef 2FE2 t 10 2 -\nstart\n")
             lacking, whole = self.ran(path), self.ran(ofono_tries.TELEPHONE)
+            began = time.monotonic()
+            refused = self.ran(path, text="online\nmenu\npick Menu\n")
+            took = time.monotonic() - began
+        # without a toolkit nothing is waited for
+        self.assertEqual((refused.returncode, refused.stdout), (1, "".join(
+            f"line {number}: the card has no EF.IMSI, and oFono has no toolkit with it\n" for number in (1, 2, 3))))
+        self.assertLess(took, 55)
         self.assertEqual(whole.stderr, "  oFono is being started, with this card in its modem\n")
         self.assertRegex(lacking.stderr, "^  the card has no EF.IMSI .*\n  oFono is being started, with this card in its modem\n$")
 

@@ -57,11 +57,14 @@ def expect(content, path, *wanted):
         raise Mistaken(f"{path} is {what}: {by}")
 
 
-def no_text(path, fault):
-    """What is said of a file that isn't text in UTF-8: which byte of which line is none."""
-    before = fault.object[:fault.start]
-    line, column = before.count(b"\n") + 1, len(before) - before.rfind(b"\n")
-    return f"{path}: the file is no text in UTF-8: the byte {fault.object[fault.start]:02X} stands in line {line}, at {column}"
+def text_of(content, path):
+    """The text of a file's bytes. Mistaken, with the place of the first byte that is none in UTF-8."""
+    try:
+        return content.decode()
+    except UnicodeDecodeError as fault:
+        before = content[:fault.start]
+        line, column = before.count(b"\n") + 1, len(before) - before.rfind(b"\n")
+        raise Mistaken(f"{path}: the file is no text in UTF-8: the byte {content[fault.start]:02X} stands in line {line}, at {column}") from None
 
 
 def expect_card(path):
