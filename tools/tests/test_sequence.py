@@ -786,6 +786,10 @@ class Verdicts(unittest.TestCase):
 
         self.assertEqual(self.told(Clock(), "command MORE TIME", "response result 00", "time 3")[0], verdict.PASSED)
 
+    def test_a_number_is_no_command(self):
+        with self.assertRaisesRegex(TypeError, "bytes are wanted, or hexadecimal digits as text, and not 5"):
+            Player(Obliging()).transmit(5)
+
     def test_an_object_in_a_cards_place(self):
         """What answers a pair is told what is wanted."""
         class Pair:
