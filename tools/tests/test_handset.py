@@ -84,7 +84,7 @@ class OverTheCard(unittest.TestCase):
         with Card(MENU) as card:
             terminal = Terminal(card)
             terminal.start()
-            for line, why in (("user yes", "a user does no `yes`"), ("apdu 00", "for no handset"), ("ef 2FE2 t 1 - -", "for no handset")):
+            for line, why in (("user yes", "`yes` is nothing that a user does"), ("apdu 00", "for no handset"), ("ef 2FE2 t 1 - -", "for no handset")):
                 with self.assertRaisesRegex(Wrong, why):
                     terminal.line(line)
 

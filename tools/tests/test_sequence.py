@@ -188,7 +188,7 @@ class Files(unittest.TestCase):
         ("user dance", "and in a sequence help and refuse"),
         ("needs LANGUAGE", "is `LANGUAGE NOTIFICATION` meant?"), ("needs PAY", "a bit is written as `byte 9 bit 6`"),
         ("response any result 00", "after `response any` stands nothing"), ("command GET INPUT length 1", "the greatest length is missing"),
-        ("user dance", "a user does no `dance`"),
+        ("user dance", "`dance` is nothing that a user does"),
         ("net echo 1 1", "this is for `bip`"),
         ("time", "N is missing"),
         ("envelope", "the envelope is missing"),
@@ -1348,6 +1348,15 @@ class Tool(unittest.TestCase):
             done = tool(one, other, "--known", known)
             self.assertEqual(done.returncode, 1)
             self.assertIn(f"{one}:1: a: failed, and passed before\n1 verdict other than before\n", done.stdout)
+
+    def test_files_that_are_read_alone(self):
+        """Nothing is played: there is no terminal."""
+        with tempfile.TemporaryDirectory() as folder:
+            path = self.put(folder, *self.PASSES, *self.FAILS)
+            done = tool(path, "--read", "--on", "nobody")
+            self.assertEqual((done.returncode, done.stdout), (0, "2 sequences, and no line is bad\n"))
+            path = self.put(folder, *self.PASSES, "usr ok")
+            self.assertEqual(tool(path, "--read").returncode, 2)
 
     def test_what_is_known_and_not_played(self):
         with tempfile.TemporaryDirectory() as folder:
