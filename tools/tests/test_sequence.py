@@ -786,6 +786,13 @@ class Verdicts(unittest.TestCase):
 
         self.assertEqual(self.told(Clock(), "command MORE TIME", "response result 00", "time 3")[0], verdict.PASSED)
 
+    def test_a_flag_that_is_another_one(self):
+        """It is told in a row of its own, and the object's value is right."""
+        outcome = self.over_usim(on_response(0x02, lambda found: [(found[0][0], False, found[0][2]), *found[1:]]), "command MORE TIME", "response result 00")
+        self.assertEqual([(row.label, row.wanted, row.found, row.is_right) for row in outcome.rows][:2], [
+            ("command details", "MORE TIME, number 1", "MORE TIME, number 1", True),
+            ("flag of the command details", "comprehension required", "comprehension not required", False)])
+
     def test_a_number_is_no_command(self):
         with self.assertRaisesRegex(TypeError, "bytes are wanted, or hexadecimal digits as text, and not 5"):
             Player(Obliging()).transmit(5)

@@ -70,12 +70,11 @@ class Outcome:
     lost: str = ""
 
 
-def row_of(one, flag, value):
-    """An object that must come beside the one that came. What the flag says is told where it is another one."""
-    wanted, found = one.told(), decode.object_text(one.tag, value, False)
+def rows_of(one, flag, value):
+    """An object that must come beside the one that came; and its flag (CR), where that is another one."""
+    yield Row(one.label, one.told(), decode.object_text(one.tag, value, False), one.fits(one.flag, value))
     if one.flag not in (None, flag):
-        wanted, found = f"{wanted}, {flag_text(one.flag)}", f"{found}, {flag_text(flag)}"
-    return Row(one.label, wanted, found, one.fits(flag, value))
+        yield Row(f"flag of the {one.label}", flag_text(one.flag), flag_text(flag), False)
 
 
 def compared(wanted, found, has_more):
@@ -87,7 +86,7 @@ def compared(wanted, found, has_more):
             rows.append(Row(one.label, one.told(), None, one.optional))
             continue
         _, flag, value = left.pop(place)
-        rows.append(row_of(one, flag, value))
+        rows += rows_of(one, flag, value)
     return rows + [Row(label_of(tag), None, decode.object_text(tag, value, False), has_more) for tag, _, value in left]
 
 
