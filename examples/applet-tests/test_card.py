@@ -15,7 +15,7 @@ def test_phone_book_asks_for_the_pin(card):
     with pytest.raises(StatusError) as refused:
         card.read_record(1)
     assert refused.value.status == NOT_SATISFIED
-    assert refused.value.status.meaning == "the access rule isn't satisfied"
+    assert refused.value.status.meaning == "the security status isn't satisfied"
     card.verify(1, "1234")
     assert card.read_record(1) == b"\xFF" * 28
 

@@ -323,7 +323,7 @@ ef 7F106F01 t 4 - -
 row 4 1 014504426172733132
 start
 """
-ACCESS = "6982 the access rule isn't satisfied: "
+ACCESS = "6982 the security status isn't satisfied: "
 CONDITIONS = "6985 conditions of use aren't satisfied: "
 ROOM = "6A84 there is no room: "
 # commands, and what is said of the answer; nothing where the command is done

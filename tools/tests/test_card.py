@@ -33,7 +33,7 @@ class Cards(unittest.TestCase):
             with self.assertRaises(StatusError) as refused:
                 card.read_record(1)
             self.assertEqual(refused.exception.status, "6982")
-            self.assertIn("the access rule isn't satisfied", str(refused.exception))
+            self.assertIn("the security status isn't satisfied", str(refused.exception))
             card.verify(1, "1234")
             self.assertEqual(card.read_record(1)[:9], b"Voicemail")
             self.assertEqual(card.search_record(b"Anna"), [3])

@@ -208,7 +208,7 @@ class Objects(unittest.TestCase):
         (FETCH, "< D00E81030121008202818283034869219000", "< D00B8103012100820281829000", None),
         (FETCH, "< D00F810301210082028182" + "8D04044869219000", "< D0098103012100820281829100",
          [("status", "9000 done", "9100 done; the card has a command of 256 bytes to be fetched"), ("text", "`Hi!`", None)]),
-        ("> 00B0000004", "< AABBCCDD9000", "< 6982", [("status", "9000 done", "6982 the access rule isn't satisfied"), ("data", "AABBCCDD", "none")]),
+        ("> 00B0000004", "< AABBCCDD9000", "< 6982", [("status", "9000 done", "6982 the security status isn't satisfied"), ("data", "AABBCCDD", "none")]),
         ("> 00B000000A", "< 00112233445566778899" + "9000", "< 0011223344FF66778899" + "9000",
          [("data", "byte 6: 5566778899", "byte 6: FF66778899")]),
         (None, "> 00A4000C023F00", "> 00A4000C027F10",

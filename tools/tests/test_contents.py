@@ -224,7 +224,7 @@ class Commands(unittest.TestCase):
         (decode.NewFile(0x46, "6F53", "c", 3, 4, None, None), "62118205462100030483026F53" "8002000C8800"),
         (decode.NewFile(0x78, "7F20", None, 0, 0, None, None), "62088202782183027F20"),
     ]
-    STATUSES = [("9000", "done"), ("9110", "16 bytes"), ("63C2", "tries left: 2"), ("6C1C", "28 is the right one"), ("6982", "access rule"),
+    STATUSES = [("9000", "done"), ("9110", "16 bytes"), ("63C2", "tries left: 2"), ("6C1C", "28 is the right one"), ("6982", "security status"),
                 ("1234", "no status word")]
 
     def shown(self, lines):

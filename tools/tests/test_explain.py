@@ -182,7 +182,7 @@ class Explain(unittest.TestCase):
         usim = os.path.join(EXAMPLES, "usim")
         done = self.explain(usim + ".trace", "--script", usim + ".script")
         for part in ("   94  > 00B0000009", "READ BINARY from byte 0, 9 bytes (7F20/6F07 EF.IMSI)", "EF.IMSI: 001010123456789",
-                     "EF.ADN: Voicemail: +99990100100", "6982 the access rule isn't satisfied: rule 2F06:2 asks for PIN 1 to read; PIN 1 isn't verified", "found in records: 3",
+                     "EF.ADN: Voicemail: +99990100100", "6982 the security status isn't satisfied: rule 2F06:2 asks for PIN 1 to read; PIN 1 isn't verified", "found in records: 3",
                      "READ RECORD 1 by SFI 30 (2F00 EF.DIR)", "SEARCH RECORD forward from record 1 for 416E6E61 (7F10/6F3A EF.ADN)",
                      "   83  # EF_IMSI asks for PIN 1", "value: 1234"):
             self.assertIn(part, done.stdout)
@@ -245,7 +245,7 @@ class Explain(unittest.TestCase):
                 shown = process.played(["open", *options, "--image", path], going_on)[0]
                 done = self.explain("--image", path, text="".join(line + "\n" for line in shown))
                 for part in ("READ RECORD 1 by SFI 1 (7F10/6F3A EF.ADN)", "EF.ADN: Anna: +4917012345",
-                             "6982 the access rule isn't satisfied: rule 2F06:1 asks for PIN 1 to read; PIN 1 isn't verified"):
+                             "6982 the security status isn't satisfied: rule 2F06:1 asks for PIN 1 to read; PIN 1 isn't verified"):
                     self.assertIn(part, done.stdout)
                 os.remove(path)
             self.assertEqual(process.played(["play", "--image", path], card)[1], 0)

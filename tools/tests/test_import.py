@@ -58,7 +58,7 @@ def imported(text):
 
 def but_rules(faults):
     """What is said of a dump without an EF_ARR, but that it doesn't tell the rules which its files name."""
-    return [fault for fault in faults if not fault.endswith("its rule 2F06:1 isn't told")]
+    return [fault for fault in faults if not fault.endswith("its rule 2F06:1 isn't in the dump")]
 
 
 class Reading(unittest.TestCase):
@@ -174,23 +174,23 @@ class LeavingOut(unittest.TestCase):
         (exported("MF/ADF.CSIM/EF.IMPI", "update_binary 00"), ["MF/ADF.CSIM/EF.IMPI: a card here has no place for the files of ADF.CSIM"]),
         (exported("MF/ADF.USIM/EF.IMSI", "update_binary 082926108967452301") + exported("MF/DF.GSM/EF.LI", "update_binary 656e"),
          ["MF/DF.GSM/EF.LI: the files of ADF.USIM lie in DF.GSM here"]),
-        (exported("MF/DF.TELECOM/EF.NEW", "update_binary 00"), ["MF/DF.TELECOM/EF.NEW: no identifier is told for EF.NEW"]),
+        (exported("MF/DF.TELECOM/EF.NEW", "update_binary 00"), ["MF/DF.TELECOM/EF.NEW: no identifier is given for EF.NEW"]),
         (exported("MF/7F10/6F99", "set_data 0x80 00", fcp=OBJECTS_FCP), ["MF/7F10/6F99: `set_data` writes an object of a file of the structure BER-TLV"]),
         (exported("MF/7F10/6F99", "update_binary 00", fcp=OBJECTS_FCP), ["it is neither transparent, linear fixed nor cyclic"]),
         (exported("MF/7F10/6F99", "update_binary 00", structure="ber_tlv"), ["it is neither transparent, linear fixed nor cyclic"]),
         (exported("MF/7F10/6F99", "update_binary 0"), ["MF/7F10/6F99: `0` are no bytes"]),
-        (exported("MF/7F10/6F99", "update_binary"), ["MF/7F10/6F99: no bytes are told"]),
+        (exported("MF/7F10/6F99", "update_binary"), ["MF/7F10/6F99: no bytes are given"]),
         (exported("MF/7F10/6F99", "update_record x 00"), ["`x` is no number of a record"]),
         (exported("MF/7F10/6F99", "update_binary_decoded '{'"), ["MF/7F10/6F99: its JSON can't be read"]),
-        (exported("MF/7F10/6F99"), ["MF/7F10/6F99: nothing is told of what it holds"]),
-        (exported("MF/7F10/6F99", fcp="620482024121"), ["MF/7F10/6F99: nothing is told of what it holds"]),
+        (exported("MF/7F10/6F99"), ["MF/7F10/6F99: nothing is said of what it holds"]),
+        (exported("MF/7F10/6F99", fcp="620482024121"), ["MF/7F10/6F99: nothing is said of what it holds"]),
         (exported("MF/7F10/6F99", "update_binary " + "00" * 40_000), ["MF/7F10/6F99: SIZE is 1 to 32767, not 40000"]),
-        (exported("MF/7F10/6F99", "update_binary 0102030405060708090A", fcp=IMSI_FCP), ["it has 9 bytes, and 10 are told"]),
+        (exported("MF/7F10/6F99", "update_binary 0102030405060708090A", fcp=IMSI_FCP), ["it has 9 bytes, and 10 are given"]),
         (exported("MF/7F10/6F99", f"update_record 4 {ANNA}", fcp=ADN_FCP), ["it has 3 records of 28 bytes, and a record 4 of 28"]),
         (exported("MF/7F21/6F98", "update_binary 00", fcp="6212820241218A01048B032F06078002000188" + "00"),
-         ["MF/7F21/6F98: is deactivated there", "MF/7F21/6F98: its rule 2F06:7 isn't told"]),
-        (exported("MF/7F10/6F99", "update_record 1 00", structure="transparent"), ["it is transparent, and records are told"]),
-        (exported("MF/7F10/6F99", "update_binary 00", structure="cyclic"), ["it has records, and one content is told"]),
+         ["MF/7F21/6F98: is deactivated there", "MF/7F21/6F98: its rule 2F06:7 isn't in the dump"]),
+        (exported("MF/7F10/6F99", "update_record 1 00", structure="transparent"), ["it is transparent, and records are given"]),
+        (exported("MF/7F10/6F99", "update_binary 00", structure="cyclic"), ["it has records, and one content is given"]),
         (exported("MF/7F10/6F99", "update_record 1 " + "00" * 256), ["LENGTH is 1 to 255, not 256"]),
         (exported("MF/EF.ICCID", "update_binary 00"), ["MF/EF.ICCID: 2FE2 EF.ICCID is there already"]),
         (exported("MF/EF.ICCID/6F99", "update_binary 00"), ["MF/EF.ICCID/6F99: 2FE2 EF.ICCID is no DF"]),
@@ -231,7 +231,7 @@ class LeavingOut(unittest.TestCase):
         self.assertEqual(card.files[("6F91",)].rule[0], "2F06")
         self.assertEqual(rules.shown(card.rule_file(card.files[("6F91",)]).record(card.files[("6F91",)].rule[1])), "read, update: pin1")
         self.assertEqual([fault.partition(", ")[2] or fault for fault in faults],
-                         ["MF/EF.ARR: `8001019000801` are no bytes in hexadecimal digits; the record is left out", "MF/6F92: its rule 2F06:2 isn't told"])
+                         ["MF/EF.ARR: `8001019000801` are no bytes in hexadecimal digits; the record is left out", "MF/6F92: its rule 2F06:2 isn't in the dump"])
         _, _, faults = imported(exported("MF/6F91", "update_binary 0"))
         self.assertTrue(faults[0].endswith("; the file is left out"), faults)
 
@@ -261,7 +261,7 @@ class LeavingOut(unittest.TestCase):
     def test_a_name_is_printed_in_one_line(self):
         text = json.dumps({"files": {"MF/6F99\n": {"body": "00"}, "MF/EF.ICCID": {"body": "00"}}})
         self.assertEqual([importing.dump.printable(fault) for fault in importing.Import(text).faults],
-                         ["MF/6F99?: no identifier is told for 6F99?, and no standard file known here is called so"])
+                         ["MF/6F99?: no identifier is given for 6F99?, and no standard file known here is called so"])
         _, given, faults = imported(exported("MF/DF.TELECOM/EF.X\x7f", "update_binary 00", identifiers="3f00/7f10/6f99"))
         self.assertEqual((list(given), faults), (["pins", "default", "7F10/6F99"], []))
 
@@ -379,9 +379,9 @@ class Command(unittest.TestCase):
             # something is lost
             self.assertEqual((done.returncode, done.stdout), (1, ""))
             left_out, rule, opened, counted = done.stderr.splitlines()
-            self.assertEqual(opened, "profile: warning: no rule is told of 2 files: [default] in the profile lets everybody read them")
+            self.assertEqual(opened, "profile: warning: the dump has no rule for 2 files: [default] in the profile lets everybody read them")
             self.assertIn("MF/ADF.CSIM/EF.IMPI: ", left_out)
-            self.assertEqual(rule, "MF/ADF.USIM/EF.IMSI: its rule 2F06:1 isn't told (and one more file goes by it)")
+            self.assertEqual(rule, "MF/ADF.USIM/EF.IMSI: its rule 2F06:1 isn't in the dump (and one more file goes by it)")
             self.assertTrue(counted.startswith("2 files, "), counted)
             for words in (("profile", "build", given, "-o", script), ("lint", script)):
                 done = self.tool(*words)

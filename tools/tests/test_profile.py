@@ -240,7 +240,7 @@ class Kinds(unittest.TestCase):
                               f"is taken for its [{own}], which is at that place"])
 
     def test_a_file_of_several_services(self):
-        with self.assertRaisesRegex(profile.BadProfile, "`EF_P-CSCF` is a file of 2 services, 1 and 5: by its number or its name one is told"):
+        with self.assertRaisesRegex(profile.BadProfile, "`EF_P-CSCF` is a file of 2 services, 1 and 5: a number or a name says which"):
             profile.made_in(b'like = "usim"\n["7FF2/EF_IST"]\nservices = ["EF_P-CSCF"]\n', "card.toml")
 
 
@@ -479,6 +479,7 @@ class Checking(unittest.TestCase):
         ('["7F20/EF_EST"]\nservices = []\n[EF_UST]\nservices_on = [2, 34]', "service 2 (fixed dialling numbers) is on in EF.UST, and no file of it is there: EF.FDN"),
         ('["7F20/EF_FDN"]\nentries = []\n[EF_UST]\nservices_on = [2]',
          "service 2 (fixed dialling numbers) is on in EF.UST, and EF.EST isn't there, which says whether it is enabled"),
+        ('[EF_UST]\nhex = "01"', "7F20/6F38 EF.UST ends with bytes FF, so that all services from 9 on are on: a table of services is filled up with 00"),
         ("[EF_UST]\nservices_on = [34]", "service 34 (enabled services table) is on in EF.UST, and no file of it is there: EF.EST"),
         ('["7F10/EF_ADN"]\nlength = 13', "7F10/6F3A EF.ADN has 13 bytes a record, and should have at least 14"),
         ('[pins]\npin1 = { on = false }', "7F10/6F3A EF.ADN, rule 2F06:6, read, update: it asks for PIN 1, which is off, so that everybody "
@@ -494,6 +495,16 @@ class Checking(unittest.TestCase):
             with self.subTest(text=text):
                 card = lint.read(profile.made_in(f'like = "usim"\n{text}\n'.encode(), "card.toml").text).card
                 self.assertIn(said, list(checking.findings(card, "usim")))
+
+    def test_a_table_of_services_that_is_filled_up(self):
+        """One line says it, and none for each service."""
+        made = profile.made_in(b'like = "usim"\n[EF_UST]\nhex = "0502040000"\nsize = 7\n', "card.toml")
+        found = list(checking.findings(lint.read(made.text).card, "usim"))
+        self.assertEqual([text for text in found if " off in " not in text],
+                         ["7F20/6F38 EF.UST ends with bytes FF, so that all services from 41 on are on: a table of services is filled up with 00",
+                          "service 3 (extension 2) is on in EF.UST, and no file of it is there: EF.EXT2"])
+        made = profile.made_in(b'like = "usim"\n[EF_UST]\nhex = "01"\n', "card.toml")
+        self.assertEqual(len(list(checking.findings(lint.read(made.text).card, "usim"))), 1)
 
     def test_pin_2_protects(self):
         """The template's PIN 2 is on, so that a rule by it says who may update."""

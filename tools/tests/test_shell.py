@@ -51,7 +51,7 @@ class Shell(unittest.TestCase):
         ("resize 6F46 x\n", 1, ["SIZE is a number, and not `x`"]), ("pick one\n", 1, ["N is a number, and not `one`"]),
         ("respond zz\n", 1, ["RESULT is a number, and not `zz`"]), ("cut 0\n", 1, ["K is 1 to"]), ("apdu 0\n", 1, ["`0` is no HEX"]),
         ("read EF.IMSI\n", 1, ["rule 2F06:2 asks for PIN 1 to read; PIN 1 isn't verified"]),
-        ("apdu 00A4080C047F206F07\napdu 00B0000009\n", 0, ["6982  the access rule isn't satisfied: rule 2F06:2 asks for PIN 1 to read"]),
+        ("apdu 00A4080C047F206F07\napdu 00B0000009\n", 0, ["6982  the security status isn't satisfied: rule 2F06:2 asks for PIN 1 to read"]),
         (ADM + "deactivate EF.SPN\nread EF.SPN\nactivate EF.SPN\nread EF.SPN\n", 1, ["9000", "Example Mobile"]),
         ("verify pin1 1234\nread EF.LND\n", 0, ["records are empty"]),
         ("select A0000000871002\n", 1, ["a card here has no ADF"]),

@@ -12,7 +12,8 @@ import contextlib
 import dataclasses
 import os
 
-from . import coding, contents, decode, described, dump, fields, grammar, image, keeping, kept, kinds, layout, lint, names, process, profile, refusals, tlv
+from . import (
+    coding, contents, decode, described, dump, fields, grammar, image, keeping, kept, kinds, layout, lint, names, process, profile, refusals, tlv)
 from .follow import Follower
 from .status import Status
 from .toolkit import MEMORY_PROBLEM, Toolkit, ToolkitNow

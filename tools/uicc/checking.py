@@ -12,6 +12,8 @@ TELECOM, IMSI, ACC = ("7F10",), ("7F20", "6F07"), ("7F20", "6F78")
 AD, HOME = ("7F20", "6FAD"), ("7F20", "6F62")
 # the file that says which of the services for fixed dialling, barred dialling and access points are enabled (3GPP TS 31.102, 4.2.47)
 ENABLED = "EF.EST"
+# as many services are hardly on one after the other at the end of a table that isn't filled up with FF
+MOST_AT_END = 16
 # the service table of a kind of card
 TABLES = {"usim": (("7F20", "6F38"), "ust"), "sim": (("7F20", "6F38"), "sst")}
 
@@ -153,6 +155,12 @@ def wrong_services(card, kind):
     if on is None:
         return
     known, name, files_for = names.table("files")[table], names.name_of(path, usim), {}
+    first = 8 * len(bytes(services.content).rstrip(b"\xFF")) // contents.SERVICES[table] + 1
+    if max(on, default=0) >= first + MOST_AT_END - 1:
+        yield Finding(f"{names.shown(path, usim)} ends with bytes FF, so that all services from {first} on are on: a table of services is filled "
+                      "up with 00", (path,))
+    else:
+        first = max(on, default=0) + 1
     here = [(file, entry) for file in card.files.values() if not file.is_df and (entry := names.file(file.path, usim))]
     for file, entry in here:
         needs = entry.get("needs", {}).get(table, ())
@@ -162,6 +170,8 @@ def wrong_services(card, kind):
     for entry in names.table("files")["files"]:
         for number in entry.get("needs", {}).get(table, ()):
             files_for.setdefault(number, []).append(entry["name"])
+    # those that stand before what is filled up with FF
+    on = {number for number in on if number < first}
     beyond = sorted(number for number in on if number > len(known))
     if beyond:
         told = f"service {beyond[0]} is" if len(beyond) == 1 else f"services {', '.join(map(str, beyond))} are"
@@ -174,4 +184,5 @@ def wrong_services(card, kind):
             few = list(dict.fromkeys(own))[:3]
             yield Finding(f"service {number} ({known[number - 1]}) is on in {name}, and no file of it is there: {', '.join(few)}", (path,))
         elif ENABLED in files_for[number] and ENABLED not in there:
-            yield Finding(f"service {number} ({known[number - 1]}) is on in {name}, and {ENABLED} isn't there, which says whether it is enabled", (path,))
+            yield Finding(f"service {number} ({known[number - 1]}) is on in {name}, and {ENABLED} isn't there, which says whether it is enabled",
+                          (path,))

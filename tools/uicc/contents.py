@@ -280,7 +280,7 @@ def services(given, kind):
         several = services_of_file(str(one), kind)
         number = known.get(word) or (several[0] if len(several) == 1 else None)
         if number is None and several:
-            raise BadContent(f"`{one}` is a file of {len(several)} services, {' and '.join(map(str, several))}: by its number or its name one is told")
+            raise BadContent(f"`{one}` is a file of {len(several)} services, {' and '.join(map(str, several))}: a number or a name says which")
         if number is None:
             meant = difflib.get_close_matches(word, known, 1)
             raise BadContent(f"`{one}` is no service by number or name" + (f", but `{table('files')[kind][known[meant[0]] - 1]}` is" if meant else "")

@@ -67,7 +67,7 @@ class DumpedFile:
 
 def hexadecimal(text):
     if not text:
-        raise Unread("no bytes are told")
+        raise Unread("no bytes are given")
     try:
         return bytes.fromhex(text)
     except (ValueError, TypeError):
@@ -94,7 +94,7 @@ def identifier(part, told, folder):
             return word.upper()
     found = names.by_name(part)
     if not found:
-        raise Unread(f"no identifier is told for {part}, and no standard file known here is called so")
+        raise Unread(f"no identifier is given for {part}, and no standard file known here is called so")
     return names.in_folder(found, folder)["id"]
 
 
@@ -167,7 +167,7 @@ class Export:
                 self.line(line.strip())
             except Unread as fault:
                 self.faults.append(f"line {number}{f', {self.file.name}' if self.file else ''}: {fault}{self.left_out(line.strip())}")
-        self.faults += [f"{file.name}: nothing is told of what it holds" for file in self.files if not file.is_told() and not file.bad]
+        self.faults += [f"{file.name}: nothing is said of what it holds" for file in self.files if not file.is_told() and not file.bad]
         self.files = [file for file in self.files if not file.bad and file.is_told()]
 
     def left_out(self, line):
@@ -302,7 +302,7 @@ def dumped(name, told, faults):
         error = told["error"] if isinstance(told["error"], dict) else {"message": told["error"]}
         if str(error.get("sw_actual", "")).lower() == NOT_FOUND or NOT_FOUND in str(error.get("message", "")).lower():
             return []
-        raise Unread(f"the dump hasn't got it: {error.get('message') or error.get('sw_actual') or 'no reason is told'}")
+        raise Unread(f"the dump hasn't got it: {error.get('message') or error.get('sw_actual') or 'no reason is given'}")
     if "body" not in told:
         return []
     file, body = DumpedFile(name), told["body"]
@@ -359,7 +359,7 @@ def dialling_of(value, length):
         raise Unread("the kind of its number isn't read")
     number = "+" * (digits != "" and kind["type_of_number"] == "international") + digits
     if not length:
-        raise Unread("no length is told for its records")
+        raise Unread("no length is given for its records")
     return contents.encode_dialling({"name": name, "number": number}, length)
 
 

@@ -5,7 +5,7 @@ from .dump import Unread
 
 # who may do what with a file of which no rule is told, and the PINs: what no dump tells
 DEFAULT = {"read": "always", "update": "adm", "deactivate": "adm", "activate": "adm"}
-HEAD = """# no PINs are told: these are examples
+HEAD = """# the dump has no PINs: these are examples
 [pins]
 pin1 = { value = "1234", unblock = "12345678" }
 pin2 = { value = "5678", unblock = "87654321" }
@@ -92,7 +92,7 @@ class Import:
                 kept.rule = None
                 untold.setdefault(file.shape.rule, []).append(file.name)
         for rule, files in untold.items():
-            self.faults.append(f"{files[0]}: its rule {rule[0]}:{rule[1]} isn't told{access.others(files)}")
+            self.faults.append(f"{files[0]}: its rule {rule[0]}:{rule[1]} isn't in the dump{access.others(files)}")
 
     def _tells(self, arr, number):
         records = self.kept[arr.path].records
@@ -153,14 +153,14 @@ def told_shape(file, path):
         raise Unread("it is neither transparent, linear fixed nor cyclic")
     if structure == "t":
         if file.records:
-            raise Unread("it is transparent, and records are told")
+            raise Unread("it is transparent, and records are given")
         content = dump.bytes_of(file.whole, path, file.shape.size)
         size = len(content) if file.shape.size is None else file.shape.size
         if len(content) > size:
-            raise Unread(f"it has {size} bytes, and {len(content)} are told")
+            raise Unread(f"it has {size} bytes, and {len(content)} are given")
         return grammar.Ef(path, "t", size, 1, None, None), [content]
     if file.whole is not None:
-        raise Unread("it has records, and one content is told")
+        raise Unread("it has records, and one content is given")
     records = {number: dump.bytes_of(value, path, file.shape.length) for number, value in file.records.items()}
     length = max(map(len, records.values())) if file.shape.length is None else file.shape.length
     count = max(records) if file.shape.count is None else file.shape.count
@@ -168,5 +168,5 @@ def told_shape(file, path):
         raise Unread(f"a file here has at most {MOST_RECORDS} records, and this one {count}")
     for number, content in records.items():
         if not 1 <= number <= count or len(content) > length:
-            raise Unread(f"it has {count} records of {length} bytes, and a record {number} of {len(content)} is told")
+            raise Unread(f"it has {count} records of {length} bytes, and a record {number} of {len(content)} is given")
     return grammar.Ef(path, structure, length, count, None, None), [records.get(number, b"") for number in range(1, count + 1)]

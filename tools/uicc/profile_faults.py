@@ -29,8 +29,8 @@ UNBLOCK = 'the UNBLOCK PIN (PUK) stands with its PIN: pin1 = { value = "1234", u
 # PINs that other cards have, beside those that a card here has
 BEYOND = {f"{word}{number}": f"a card here has the PINs {', '.join(PIN_KEYS)} alone" for word in ("pin", "chv", "adm") for number in range(2, 9)}
 PINS = forms.TableOf(dict.fromkeys(PIN_KEYS, PIN), slips={
-    **BEYOND, "adm1": "it is called `adm`", "puk": UNBLOCK, "puk1": UNBLOCK, "puk2": UNBLOCK, "pin": "it is called `pin1`", "chv1": "it is called `pin1`",
-    "chv2": "it is called `pin2`"})
+    **BEYOND, "adm1": "it is called `adm`", "puk": UNBLOCK, "puk1": UNBLOCK, "puk2": UNBLOCK, "pin": "it is called `pin1`",
+    "chv1": "it is called `pin1`", "chv2": "it is called `pin2`"})
 DEFAULT = forms.TableOf(dict.fromkeys(OPERATIONS, forms.TEXT))
 APPLET = forms.TableOf({"kind": forms.TEXT, "shelf": forms.Bounded(0, layout.SHELVES - 1), "priority": forms.Bounded(1, 255),
                         "events": forms.TEXTS, "menu": forms.TEXT, "keeps": forms.TEXT, "keeps_text": forms.TEXT,

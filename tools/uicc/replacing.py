@@ -39,7 +39,8 @@ def expect_described(path, lines, text):
     gone += [f"the applet on shelf {shelf}" for shelf in old.rows if shelf not in new.rows]
     if gone:
         more = f" and {len(gone) - MOST_NAMED} more" if len(gone) > MOST_NAMED else ""
-        raise Kept(f"nothing is written: {path} describes {', '.join(gone[:MOST_NAMED])}{more}, which the new script doesn't; --force writes over it")
+        raise Kept(f"nothing is written: {path} describes {', '.join(gone[:MOST_NAMED])}{more}, which the new script doesn't; --force writes over "
+                   "it")
 
 
 def expect_free(path, text, source):
