@@ -316,6 +316,18 @@ class Players(unittest.TestCase):
             (CARD, "6985")])
         self.assertEqual([one.kind for one in self.player.heard], ["fetch of a wrong length", "fetch", "response", "stray response"])
 
+    def test_the_length_of_a_fetch(self):
+        """By the card and by the player: Le is the length of the command, or 00, which stands for 256 bytes; for another one both answer 6CXX."""
+        self.player.card = self.enterContext(Card.from_text("row 0 1 014000\nstart\n"))
+        given = [str(self.player.transmit(self.PROFILE).status)]
+        for length in (0x05, 0x00):
+            given.append(str(self.player.transmit(f"80120000{length:02X}"))[-4:])
+        self.player.give(self.OWN)
+        given.append(str(self.player.transmit("801400000C810301218082028281830100").status))
+        for length in (0x05, 0x00):
+            given.append(str(self.player.transmit(f"80120000{length:02X}"))[-4:])
+        self.assertEqual(given, ["9110", "6C10", "9000", "910B", "6C0B", "9000"])
+
     def test_data_are_handed_on_with_its_status(self):
         self.player.transmit("00A4000C022FE2")
         self.player.give(self.OWN)
