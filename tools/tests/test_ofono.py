@@ -266,11 +266,10 @@ class Tool(unittest.TestCase):
                 out.write("pin 01 31323334FFFFFFFF on 3132333435363738\nef 2FE2 t 10 2 -\nstart\n")
             lacking, whole = self.ran(path), self.ran(ofono_tries.TELEPHONE)
             began = time.monotonic()
-            refused = self.ran(path, text="online\nmenu\npick Menu\n")
+            refused = self.ran(path, text="online\n")
             took = time.monotonic() - began
         # without a toolkit nothing is waited for
-        self.assertEqual((refused.returncode, refused.stdout), (1, "".join(
-            f"line {number}: the card has no EF.IMSI, and oFono has no toolkit with it\n" for number in (1, 2, 3))))
+        self.assertEqual((refused.returncode, refused.stdout), (1, "line 1: the card has no EF.IMSI, and oFono has no toolkit with it\n"))
         self.assertLess(took, 55)
         self.assertEqual(whole.stderr, "  oFono is being started, with this card in its modem\n")
         self.assertRegex(lacking.stderr, "^  the card has no EF.IMSI .*\n  oFono is being started, with this card in its modem\n$")
