@@ -3,7 +3,7 @@ import unittest
 
 from common import in_process
 from test_card import USIM, is_built
-from uicc import Card, StatusError
+from uicc import Card, StatusError, fields, forms, keeping, names
 
 PROFILE = {
     "like": "usim", "pins": {"pin1": {"value": "1234", "on": False}}, "EF_AD": {"hex": "80000102", "update": "always"},
@@ -15,6 +15,51 @@ PROFILE = {
     "EF_PNN": {"records": ["430284414502844280025555"], "length": 20, "count": 2, "update": "always"},
     "EF_SUCI_Calc_Info": {"suci": {"schemes": [{"scheme": 0}], "keys": [{"id": 27, "key": "11" * 32}]}, "update": "always"},
 }
+
+
+# of each kind of content that a table says: how many bytes it has here, what it holds, and what else each part may be
+PARTS = {
+    "spn": (17, {"name": "Abc", "with_network": False, "abroad": False}, {"name": "Other \u0416", "with_network": True, "abroad": True}),
+    "ad": (4, {"mode": "cell test", "network_digits": 3}, {"mode": "normal", "network_digits": 2}),
+    "dialling": (28, {"name": "Zo\u00eb", "number": "+49171"}, {"name": "Q", "number": "5"}),
+    "barred": (29, {"name": "Zo", "number": "123"}, {"name": "Q", "number": "5"}),
+    "ecc": (20, {"number": "112", "name": "Po", "category": 1}, {"number": "110", "name": "F", "category": 4}),
+    "smsp": (44, {"name": "S", "destination": "+491", "centre": "+4917", "protocol": 1, "coding": 2, "validity": 60},
+             {"name": "Other", "destination": "12", "centre": "99", "protocol": 9, "coding": 8, "validity": 1440}),
+    "loci": (11, {"tmsi": "01020304", "plmn": "262-01", "area": "0A0B", "status": "updated"},
+             {"tmsi": "0A020304", "plmn": "001-01", "area": "0A00", "status": "not updated"}),
+    "psloci": (14, {"ptmsi": "01020304", "signature": "010203", "plmn": "262-01", "area": "0A0B", "routing": "05", "status": "updated"},
+               {"ptmsi": "0B020304", "signature": "FF0203", "plmn": "001-01", "area": "0A00", "routing": "06", "status": "not updated"}),
+    "epsloci": (18, {"guti": "01" * 12, "plmn": "262-01", "area": "0A0B", "status": "updated"},
+                {"guti": "02" * 12, "plmn": "001-01", "area": "0A00", "status": "not updated"}),
+    "5gsloci": (20, {"guti": "01" * 13, "plmn": "262-01", "area": "0A0B0C", "status": "updated"},
+                {"guti": "02" * 13, "plmn": "001-01", "area": "0A0B00", "status": "not updated"}),
+    "opl": (8, {"plmn": "262-01", "from": "0001", "to": "0002", "name": 3}, {"plmn": "001-01", "from": "0003", "to": "0004", "name": 4}),
+    "opl5g": (10, {"plmn": "262-01", "from": "000001", "to": "000002", "name": 3}, {"plmn": "001-01", "from": "000003", "to": "000004", "name": 4}),
+    "mbi": (4, {"voice": 1, "fax": 2, "email": 3, "other": 4}, {"voice": 9, "fax": 8, "email": 7, "other": 6}),
+    "pnn": (40, {"full": "Nord", "short": "N"}, {"full": "S\u00fcd", "short": "\u0416"}),
+    "application": (40, {"aid": "A0000000871002", "label": "U"}, {"aid": "A000000087100401", "label": "ISIM"}),
+    "suci": (60, {"schemes": [{"scheme": 1, "key": 1}], "keys": [{"id": 1, "key": "11" * 32}]}, {"schemes": [{"scheme": 0, "key": 0}], "keys": []}),
+    "supi-nai": (40, {"network_specific": "a@b", "global_line": "x"}, {"network_specific": "ccc", "global_line": "yy"}),
+}
+
+
+class Parts(unittest.TestCase):
+    """Of each kind of content a part that is written changes, and the others stay."""
+
+    def test_each_kind(self):
+        entries = {entry["content"]: entry for entry in names.table("files")["files"] if "content" in entry}
+        self.assertEqual(set(PARTS), {content for content, kind in fields.KINDS.items() if forms.table_in(kind.form)})
+        for content, (size, held, other) in PARTS.items():
+            kind, entry = fields.KINDS[content], entries[content]
+            before = keeping.encoded(kind, kind.key, held, entry, size)
+            for some in [[key] for key in other] + [list(other)[:-1], list(other)]:
+                given = {key: other[key] for key in some}
+                with self.subTest(content=content, given=given):
+                    self.assertTrue(keeping.is_in_parts(kind.key, [given] if kind.of_records else given, entry))
+                    found = kind.value(keeping.written(kind.key, given, entry, before))
+                    found = found if isinstance(found, dict) else {"name": found, "with_network": True, "abroad": True}
+                    self.assertEqual(found, {**held, **given})
 
 
 @unittest.skipUnless(is_built(), "the program isn't built")

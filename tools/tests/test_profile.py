@@ -319,6 +319,8 @@ class Mistakes(unittest.TestCase):
         ('[EF_FPLMN]\nlike = "sim"', ["line 3: [EF_FPLMN] like isn't known in a table: `like = \"usim\"` stands at the top of a profile, before the first table"]),
         ('[pins]\npin4 = { value = "1234" }', ["line 3: [pins] pin4 isn't known: a card here has the PINs pin1, pin2, adm alone"]),
         ('[EF_SPN]\nrecords = ["00", "01"]\nlength = 1\ncount = 1', ["line 3: [EF_SPN] records: it has 2 records, and room for 1: `count = 2`"]),
+        ('["7F10/6F99"]\nrecords = ["01"]\nlength = { a = 1 }\nfolder = true',
+         ['line 4: ["7F10/6F99"] length is a table, and has to be a number from 1 to 255', 'line 5: ["7F10/6F99"] says `folder`, and the table of a DF']),
         ("colour = 1", ["line 2: `colour` isn't known at the top of a profile: `like`, [pins], [default], [[applet]] and tables of files are"]),
         ('EF_IMSI = "262019876543210"', ["line 2: `EF_IMSI` is text, and has to be a table: [EF_IMSI] and below it what the file holds"]),
         ('[pins]\nadm1 = { value = "1234" }', ["line 3: [pins] adm1 isn't known: it is called `adm`"]),

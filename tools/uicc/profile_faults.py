@@ -110,7 +110,6 @@ def faults_of_keys(path, given, entry):
         return
     if "folder" in given and given != {"folder": True}:
         yield ("folder",), "says `folder`, and the table of a DF has nothing else"
-        return
     told = [key for key in given if key in fields.KEYS]
     for key, value in given.items():
         if key in OF_FILE:
