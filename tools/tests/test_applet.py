@@ -251,7 +251,7 @@ class Words(Copy):
         self.change("parrot mind _ = done mind", "parrot mind _ = turn mind TakeTimer 1", "applet_trait", "specs", "Tables.antt")
         status, shown, _ = self.told("rows")
         self.assertEqual((status, shown[-1]), (1, "328 rows, 5 differ"))
-        self.assertEqual(shown[1], "    by the definitions take timer")
+        self.assertRegex(shown[1], r"^    by the definitions take timer \(of the applet parrot, line \d+\)$")
         status, _, said = self.told("new", "parrot")
         self.assertEqual((status, said), (2, "applet: `parrot` is a name of the sources already\n"))
         status, shown, _ = self.told("text", "GREETING", "Moin")

@@ -1,8 +1,10 @@
 """tools/capture, by tables."""
+import os
 import struct
+import tempfile
 import unittest
 
-from common import load
+from common import in_process, load
 from uicc import trace
 
 
@@ -66,6 +68,16 @@ class Captures(unittest.TestCase):
             found = [(packet.kind, packet.content.decode() if packet.kind == "mark" else packet.content.hex().upper(),
                       None if packet.kind == "mark" else packet.comments) for packet in capture.packets(lines)]
             self.assertEqual(found, packets)
+
+    def test_a_trace_that_is_no_text(self):
+        """The file and the place are told."""
+        with tempfile.TemporaryDirectory() as folder:
+            path = os.path.join(folder, "a.trace")
+            with open(path, "wb") as out:
+                out.write(b"> 00A4\n< 90\xFF\n")
+            done = in_process("capture", path)
+            self.assertEqual((done.returncode, done.stderr), (2, f"capture: {path}: the file is no text in UTF-8: the byte FF stands in line 2, at 5\n"))
+            self.assertEqual(os.listdir(folder), ["a.trace"])
 
     def test_no_trace(self):
         capture = load("capture")

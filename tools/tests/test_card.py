@@ -283,11 +283,23 @@ class Cards(unittest.TestCase):
                     plan()
             self.assertEqual(card.transmit("00A4000C023F00").status, "9000")
 
+    def test_an_entry_that_the_menu_lacks_where_the_applets_are_not_known(self):
+        """The menu that was fetched tells it."""
+        with Card(MENU) as card:
+            card.profile()
+            while card.pending is not None:
+                card.fetch()
+                card.respond()
+            card._toolkit.doubt = "the definitions are other ones"
+            with self.assertRaisesRegex(CardError, r"the card's menu has no entry 99: 2 \(Menu\)"):
+                card.pick(99)
+            self.assertTrue(card.pick(2).status.startswith("91"))
+
     def test_a_card_that_ended(self):
         """It says so at each later call."""
         with Card(USIM) as card:
             pass
-        for call in (card.select, card.reset, lambda: card.cut(1), lambda: card.transmit("00A4000C023F00")):
+        for call in (card.select, card.reset, lambda: card.cut(1), lambda: card.transmit("00A4000C023F00"), card.fetch):
             with self.assertRaisesRegex(ValueError, "the card is closed"):
                 call()
         with Card(USIM) as card:

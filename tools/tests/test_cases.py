@@ -285,6 +285,27 @@ class Expect(unittest.TestCase):
                      "4 cases, 3 runs, 1 differ, 1 skipped"):
             self.assertIn(part, done.stdout)
 
+    def test_a_faulty_line_is_told(self):
+        """What `line N` says, and by which word the script would be played to its end."""
+        with open(self.program, "w", encoding="ascii") as out:
+            out.write("#!/bin/sh\ncat > /dev/null\necho line 2\nexit 2\n")
+        for text, told in (("start\nuser ok\n#* menu 1\n", ["`line 2` says that the script ends there, at a faulty line: this line is for a handset",
+                                                           "as a script for `phone` it has no faulty line: --phone\n"]),
+                           ("start\naapdu 00A4000C02\n#< 9000\n", ["at a faulty line: no line begins with `aapdu`: apdu HEX\n"])):
+            with self.subTest(text=text):
+                done = self.expect(self.put("script", text))
+                self.assertEqual(done.returncode, 1)
+                for part in told:
+                    self.assertIn(part, done.stdout)
+                self.assertEqual("--phone" in done.stdout, len(told) > 1)
+
+    def test_comments_that_look_like_what_is_expected(self):
+        path = self.put("script", "start\n# < 5 items\n# ..\napdu 00A4000C02\n# < 9110\n#< 9000\n")
+        done = self.expect(path)
+        self.assertEqual((done.returncode, done.stderr.splitlines()), (0, [
+            f"expect: {path}:3: `# ..` is a comment, and expects nothing: `#..` does",
+            f"expect: {path}:5: `# < 9110` is a comment, and expects nothing: `#< 9110` does"]))
+
     def test_reports(self):
         report = os.path.join(self.folder, "report.xml")
         done = self.expect(self.put("a.cases", FILE), "--tap", "--junit", report)
@@ -371,6 +392,30 @@ class Expect(unittest.TestCase):
         self.assertEqual(self.expect(path, "--write").returncode, 0)
         with open(path, encoding="ascii") as left:
             self.assertEqual(left.read(), "start\napdu 00A4000C023F00\n#< ..00\nreset\n#! reset\n")
+
+    # a script, and what it is when what it shows was written into it: each `#..` and each line that is met stays. The stand-in answers 9000
+    OPEN = [
+        ("start\napdu 00A4000C02\n#< 9001\napdu 00B0000001\n#..\nreset\n#! reset\n", "start\napdu 00A4000C02\n#< 9000\napdu 00B0000001\n#..\nreset\n#! reset\n"),
+        # the difference stands after it, and below the same line
+        ("start\napdu 00A4000C02\n#..\n#< 9001\nreset\n", "start\napdu 00A4000C02\n#..\n#< 9000\nreset\n#! reset\n"),
+        # it stands for what several lines show
+        ("start\nreset\n#! off\n#..\napdu 00A4000C02\napdu 00B0000001\nreset\n#! reset\n",
+         "start\nreset\n#! reset\n#..\napdu 00A4000C02\napdu 00B0000001\nreset\n#! reset\n"),
+        # what is met after it stays, and what stands in no line comes below its own
+        ("start\n#..\n#> 00B0000001\n#< 9000\napdu 00A4000C02\napdu 00B0000001\nreset\napdu 00C0000001\n",
+         "start\n#..\n#> 00B0000001\n#< 9000\napdu 00A4000C02\napdu 00B0000001\nreset\n#! reset\napdu 00C0000001\n#< 9000\n"),
+        # a line that nothing is shown in the place of is taken away
+        ("start\n#..\nreset\n#! reset\n#! reset\n#! reset\n", "start\n#..\nreset\n#! reset\n"),
+    ]
+
+    def test_gaps_stay(self):
+        for text, wanted in self.OPEN:
+            with self.subTest(text=text):
+                path = self.put("script", text)
+                self.assertEqual(self.expect(path, "--write").returncode, 0)
+                with open(path, encoding="ascii") as left:
+                    self.assertEqual(left.read(), wanted)
+                self.assertEqual(self.expect(path).returncode, 0)
 
     def test_a_star_that_is_not_understood(self):
         done = self.expect(self.put("script", "start\napdu 00A4000C023F00\n#< 90*\n"))

@@ -1,11 +1,12 @@
 """The handset in Python: over the proved card it is that of `phone`, and a test chooses what it can do and what it answers."""
 import os
+import re
 import tempfile
 import unittest
 
 import fuzz_terminal
 import common  # noqa: F401 (the path)
-from uicc import Answer, Card, Reply, Terminal, handset, process
+from uicc import Answer, Card, CardError, Reply, Terminal, handset, process
 from uicc.grammar import Wrong
 
 EXAMPLES = os.path.join(process.TOP, "examples")
@@ -83,7 +84,7 @@ class OverTheCard(unittest.TestCase):
         with Card(MENU) as card:
             terminal = Terminal(card)
             terminal.start()
-            for line, why in (("user yes", "a user does no `yes`"), ("apdu 00", "for no handset"), ("ef 2FE2 t 1 - -", "for no handset")):
+            for line, why in (("user yes", "`yes` is nothing that a user does"), ("apdu 00", "for no handset"), ("ef 2FE2 t 1 - -", "for no handset")):
                 with self.assertRaisesRegex(Wrong, why):
                     terminal.line(line)
 
@@ -112,6 +113,29 @@ class OverTheCard(unittest.TestCase):
                 del terminal.answers["DISPLAY TEXT"]
                 terminal.reset()
                 self.assertIn("* text Hi", card.trace)
+
+
+    def test_answers_that_are_none(self):
+        """A name that no command has, and what is no Reply, are told as soon as they are given."""
+        for name, reply, fault, why in (("DISPLAY TXT", handset.BUSY, ValueError, "no command is called 'DISPLAY TXT': is 'DISPLAY TEXT' meant?"),
+                                        (0x21, handset.BUSY, ValueError, "no command is called 33"), ("DISPLAY TEXT", 5, TypeError, "answered by a Reply")):
+            with self.subTest(name=name), Card(MENU) as card:
+                with self.assertRaisesRegex(fault, re.escape(why)):
+                    Terminal(card, answers={name: reply})
+                terminal = Terminal(card)
+                with self.assertRaisesRegex(fault, re.escape(why)):
+                    terminal.answers[name] = reply
+        self.assertEqual(list(handset.Answers({"type 6F": handset.BUSY})), ["type 6F"])
+
+    def test_a_handset_that_is_not_on(self):
+        """What happens at it before it is switched on is told as a mistake."""
+        for act in (lambda terminal: terminal.pick(2), lambda terminal: terminal.ok(), lambda terminal: terminal.line("user press")):
+            with Card(MENU) as card:
+                terminal = Terminal(card)
+                with self.assertRaisesRegex(CardError, "isn't switched on: `start\\(\\)` does so"):
+                    act(terminal)
+                terminal.start()
+                act(terminal)
 
 
 class WhatItReads(unittest.TestCase):

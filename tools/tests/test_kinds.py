@@ -247,6 +247,7 @@ class Rows(unittest.TestCase):
         ('differs on event 40 - => send display txt "Moin"', "is `send display text TEXT` meant?"),
         ("on event 40 - => send get input Say? 0 to 20 digits", "is `send get input TEXT N to N digits` meant?"),
         ('on event 40 - => send get input "Say?" 20 digits', "is `send get input TEXT N to N digits` meant?"),
+        ('on response 00 0 "How much?" => done', "a text in quotes has no space in it: it is written in hexadecimal digits, as `5461706520696E`"),
         (" => done", "a row is applet, wake, on, boxed, shelf, and not `=>`"),
     ]
 
@@ -257,6 +258,19 @@ class Rows(unittest.TestCase):
                 self.assertEqual(([row.line for row, _ in found], count), ([2], 2))
                 self.assertIn("not a row: ", found[0][1])
                 self.assertIn(why, found[0][1])
+
+    def test_whose_a_row_is(self):
+        """Of a row that goes on with an applet it is told which that is."""
+        text = "# rows\napplet greeter - => kind 1\non event 40 - => done\nboxed clock - event 40 - => done\nwake - => kind 3\n"
+        found = applet_rows.differing(kinds.told(False), text)[0]
+        self.assertEqual([(row.line, row.of) for row, _ in found], [(3, "of the applet greeter, line 2"), (4, ""), (5, "of the applet greeter, line 2")])
+
+    def test_a_clause_with_too_few_parts(self):
+        """It is told in words of definitions."""
+        known = evaluation.Definitions({"act": [([("made", "Response", [("any",), ("bound", "text")])], ("name", "text"))]}, {})
+        with self.assertRaises(evaluation.Unknown) as refused:
+            known.call("act", evaluation.Made("Response", (0, 0, ())))
+        self.assertEqual(str(refused.exception), "`Response` has 3 parts, and a clause has it with 2")
 
     def test_differing(self):
         for text, lines in self.TABLE:

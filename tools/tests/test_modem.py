@@ -3,6 +3,7 @@ import contextlib
 import os
 import random
 import re
+import shutil
 import signal
 import socket
 import subprocess
@@ -497,6 +498,23 @@ class Tool(unittest.TestCase):
                 said = told.stderr.read()
                 self.assertIn(why, said)
                 self.assertNotIn("Traceback", said)
+
+    def test_what_it_reads_is_not_written_over(self):
+        """A trace is written over neither the script nor the image of the card."""
+        folder = self.enterContext(tempfile.TemporaryDirectory())
+        script, memory = os.path.join(folder, "a.script"), os.path.join(folder, "a.img")
+        shutil.copy(USIM, script)
+        with Card(script, memory):
+            pass
+        for words, path in (((script, "--trace", script), script), ((script, "--image", memory, "--trace", memory), memory),
+                            (("--image", memory, "--trace", memory), memory)):
+            with self.subTest(words=words), open(path, "rb") as content:
+                before = content.read()
+                told = self.start(*words, "--stdio")
+                self.assertEqual(told.wait(SECONDS), 2)
+                self.assertIn(f"modem: nothing is written: {path} is what this is made of, and would be lost", told.stderr.read())
+                content.seek(0)
+                self.assertEqual(content.read(), before)
 
     def test_another_address_is_said(self):
         told = self.start(USIM, "--listen", "0.0.0.0:0")

@@ -2,9 +2,11 @@
 import contextlib
 import io
 import os
+import shutil
 import subprocess
 import sys
 import tempfile
+import time
 import types
 import unittest
 import unittest.mock
@@ -214,9 +216,9 @@ class Manager(unittest.TestCase):
 
 
 class Tool(unittest.TestCase):
-    def ran(self, *words, **environment):
+    def ran(self, *words, text="", **environment):
         words = [sys.executable, "-B", os.path.join(TOOLS, "ofono"), *words]
-        return subprocess.run(words, input="", capture_output=True, text=True, timeout=300, check=False, env={**os.environ, **environment})
+        return subprocess.run(words, input=text, capture_output=True, text=True, timeout=300, check=False, env={**os.environ, **environment})
 
     def test_what_is_refused(self):
         self.assertIn("--keep is for what is tried", self.ran("card.script", "--keep", "x").stderr)
@@ -228,6 +230,15 @@ class Tool(unittest.TestCase):
         self.assertEqual(ran.returncode, 2)
         self.assertIn("/nowhere/a.trace", ran.stderr)
         self.assertNotIn("Traceback", ran.stderr)
+
+    def test_the_script_is_not_written_over(self):
+        with tempfile.TemporaryDirectory() as folder:
+            path = os.path.join(folder, "a.script")
+            shutil.copy(ofono_tries.TELEPHONE, path)
+            ran = self.ran(path, "--trace", path)
+            self.assertEqual((ran.returncode, ran.stderr), (2, f"ofono: nothing is written: {path} is what this is made of, and would be lost: the result goes to another file\n"))
+            with open(path, "rb") as one, open(ofono_tries.TELEPHONE, "rb") as other:
+                self.assertEqual(one.read(), other.read())
 
     @unittest.skipIf(MISSING, f"oFono isn't here: {MISSING}")
     def test_no_card(self):
@@ -254,6 +265,12 @@ class Tool(unittest.TestCase):
             with open(path, "w", encoding="ascii") as out:
                 out.write("pin 01 31323334FFFFFFFF on 3132333435363738\nef 2FE2 t 10 2 -\nstart\n")
             lacking, whole = self.ran(path), self.ran(ofono_tries.TELEPHONE)
+            began = time.monotonic()
+            refused = self.ran(path, text="online\n")
+            took = time.monotonic() - began
+        # without a toolkit nothing is waited for
+        self.assertEqual((refused.returncode, refused.stdout), (1, "line 1: the card has no EF.IMSI, and oFono has no toolkit with it\n"))
+        self.assertLess(took, 55)
         self.assertEqual(whole.stderr, "  oFono is being started, with this card in its modem\n")
         self.assertRegex(lacking.stderr, "^  the card has no EF.IMSI .*\n  oFono is being started, with this card in its modem\n$")
 

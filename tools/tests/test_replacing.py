@@ -59,7 +59,7 @@ class Results(unittest.TestCase):
     def test_reports(self):
         script, profile = self.path("one.script", CASES), self.path("card.toml", 'like = "usim"\n')
         self.refused(profile, "a profile, and would be lost", "expect", script, "--junit", profile)
-        self.refused(script, "a script, and would be lost", "expect", script, "--junit", script)
+        self.refused(script, "what this is made of", "expect", script, "--junit", script)
         self.refused(profile, "a profile, and would be lost", "sequence", os.path.join(process.TOP, "examples", "sequences", "timers.sequence"), "--junit", profile)
         made = self.path("report.xml")
         for _ in range(2):

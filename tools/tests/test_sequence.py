@@ -134,6 +134,10 @@ class Files(unittest.TestCase):
         self.assertEqual([sequence.has(profile, need) for need in ("byte 9 bit 6", "byte 9 bit 5", "byte 10 bit 1", "DISPLAY TEXT")],
                          [True, False, False, False])
 
+    def test_a_time_that_is_left_open(self):
+        left = read("command TIMER MANAGEMENT qualifier 02 timer 1", "response result 00 timer 1 time any")[0].steps[1].objects[-1]
+        self.assertEqual([left.fits(True, bytes.fromhex(value)) for value in ("503214", "5032")], [True, False])
+
     def test_commands_without_a_response(self):
         """They are refused: whatever the terminal answered, such a sequence would pass."""
         lines = ("command MORE TIME", "command MORE TIME", "response result 00", "command REFRESH qualifier 04", "restart")
@@ -148,6 +152,10 @@ class Files(unittest.TestCase):
         ("command SELECT", "`SELECT` is no command: is `SELECT ITEM` meant?"), ("command GET text A", "`GET text"),
         ("command LANGUAGE NOTIFY", "is `LANGUAGE NOTIFICATION` meant?"), ("command display text text A", "is `DISPLAY TEXT` or `DISPLAY MULTIMEDIA MESSAGE` meant?"),
         ("command DISPLAY TEXT txt \"A\"", "`txt` is no object: is `text` meant?"),
+        ("response from network result 00", "`from` is no object: `from DEVICE` stands before the objects"),
+        ("envelope event events 04 from keypad", "as in `envelope event from display events idle-screen`"),
+        ("response devices 8381 result 00", "`devices` is no object: device identities are `object 82 8281`"),
+        ("command TIMER MANAGEMENT qualifier 00 timer 1 time any", "a command is given as it is"),
         ("command DISPLAY TEXT alpha-id \"A\"", "`alpha-id` is no object: is `alpha"),
         ("command DISPLAY TEXT text \"A", "quotes come in pairs"),
         ("command DISPLAY TEXT text", "the text is missing"),
@@ -160,7 +168,7 @@ class Files(unittest.TestCase):
         ("command DISPLAY TEXT without text", "`text` is no part that a command may be without"),
         ("command SET UP MENU item 0 \"A\"", "the number of an item is 1 to 255, not 0"),
         ("command PLAY TONE duration 1 hours", "a duration is in minutes, seconds or tenths, not in hours"),
-        ("command TIMER MANAGEMENT time 1:00", "a time is HH:MM:SS, not 1:00"),
+        ("command TIMER MANAGEMENT time 1:00", "a time is HH:MM:SS, or any, not 1:00"),
         ("command SET UP EVENT LIST events rain", "`rain` is no event, nor a code of two digits"),
         ("command SET UP CALL address 12a", "a number that is dialled is"),
         ("command PROVIDE LOCAL INFORMATION language EN", "a language is two letters, not EN"),
@@ -180,7 +188,7 @@ class Files(unittest.TestCase):
         ("user dance", "and in a sequence help and refuse"),
         ("needs LANGUAGE", "is `LANGUAGE NOTIFICATION` meant?"), ("needs PAY", "a bit is written as `byte 9 bit 6`"),
         ("response any result 00", "after `response any` stands nothing"), ("command GET INPUT length 1", "the greatest length is missing"),
-        ("user dance", "a user does no `dance`"),
+        ("user dance", "`dance` is nothing that a user does"),
         ("net echo 1 1", "this is for `bip`"),
         ("time", "N is missing"),
         ("envelope", "the envelope is missing"),
@@ -307,6 +315,18 @@ class Players(unittest.TestCase):
             # the second response is none of its own: the card refuses it
             (CARD, "6985")])
         self.assertEqual([one.kind for one in self.player.heard], ["fetch of a wrong length", "fetch", "response", "stray response"])
+
+    def test_the_length_of_a_fetch(self):
+        """By the card and by the player: Le is the length of the command, or 00, which stands for 256 bytes; for another one both answer 6CXX."""
+        self.player.card = self.enterContext(Card.from_text("row 0 1 014000\nstart\n"))
+        given = [str(self.player.transmit(self.PROFILE).status)]
+        for length in (0x05, 0x00):
+            given.append(str(self.player.transmit(f"80120000{length:02X}"))[-4:])
+        self.player.give(self.OWN)
+        given.append(str(self.player.transmit("801400000C810301218082028281830100").status))
+        for length in (0x05, 0x00):
+            given.append(str(self.player.transmit(f"80120000{length:02X}"))[-4:])
+        self.assertEqual(given, ["9110", "6C10", "9000", "910B", "6C0B", "9000"])
 
     def test_data_are_handed_on_with_its_status(self):
         self.player.transmit("00A4000C022FE2")
@@ -778,6 +798,17 @@ class Verdicts(unittest.TestCase):
 
         self.assertEqual(self.told(Clock(), "command MORE TIME", "response result 00", "time 3")[0], verdict.PASSED)
 
+    def test_a_flag_that_is_another_one(self):
+        """It is told in a row of its own, and the object's value is right."""
+        outcome = self.over_usim(on_response(0x02, lambda found: [(found[0][0], False, found[0][2]), *found[1:]]), "command MORE TIME", "response result 00")
+        self.assertEqual([(row.label, row.wanted, row.found, row.is_right) for row in outcome.rows][:2], [
+            ("command details", "MORE TIME, number 1", "MORE TIME, number 1", True),
+            ("flag of the command details", "comprehension required", "comprehension not required", False)])
+
+    def test_a_number_is_no_command(self):
+        with self.assertRaisesRegex(TypeError, "bytes are wanted, or hexadecimal digits as text, and not 5"):
+            Player(Obliging()).transmit(5)
+
     def test_an_object_in_a_cards_place(self):
         """What answers a pair is told what is wanted."""
         class Pair:
@@ -839,6 +870,89 @@ class Verdicts(unittest.TestCase):
                 outcome = self.told(undertest.InPython(lambda player, changed=changed: able_terminal.AbleTerminal(Link(player, changed))),
                                     "command MORE TIME", "response result 00")
                 self.assertEqual(outcome[:2], (verdict.FAILED if why else verdict.PASSED, why))
+
+    # a command of a terminal and how it is changed, and what is told of it
+    WITH_WRONG_P1 = [
+        (decode.PROFILE, "command MORE TIME", "the TERMINAL PROFILE 801001000C.. is answered 6A86, wrong P1 or P2", "sequence one"),
+        (decode.FETCH, "command MORE TIME", "the command isn't fetched: the FETCH 801201000B is answered 6A86, wrong P1 or P2", "command MORE TIME"),
+        (decode.RESPONSE, "command MORE TIME", "no TERMINAL RESPONSE comes: the TERMINAL RESPONSE 801401000C.. is answered 6A86, wrong P1 or P2",
+         "response result 00"),
+        (decode.ENVELOPE, "command SET UP MENU title M item 2 B", "no ENVELOPE comes: the ENVELOPE 80C2010009.. is answered 6A86, wrong P1 or P2",
+         "envelope menu selection identifier 2"),
+    ]
+
+    def over_usim(self, change, *lines, make=able_terminal.AbleTerminal):
+        with Card(USIM) as card:
+            return verdict.judged(read(*lines)[0], undertest.InPython(lambda player: make(Link(player, change))), card)
+
+    def test_headers(self):
+        """P1 P2 of the toolkit's commands are 00 00 (ETSI TS 102 221, 11.2): what the card refuses has not come."""
+        for ins, command, why, step in self.WITH_WRONG_P1:
+            lines = [command, "response result 00"]
+            if ins == decode.ENVELOPE:
+                lines += ["user pick 2", "envelope menu selection identifier 2"]
+            with self.subTest(why=why):
+                wrong = lambda sent, ins=ins: sent[:2] + b"\1\0" + sent[4:] if sent[1] == ins else sent  # noqa: E731
+                outcome = self.over_usim(lambda sent, wrong=wrong: [wrong(sent)], *lines)
+                self.assertEqual(outcome.verdict, verdict.FAILED)
+                self.assertEqual(outcome.why, self.as_card_says(why))
+                self.assertEqual(outcome.step.text, step)
+                if ins in (decode.RESPONSE, decode.ENVELOPE):
+                    # one that is right after it doesn't mend it
+                    outcome = self.over_usim(lambda sent, wrong=wrong, ins=ins: [wrong(sent), sent] if sent[1] == ins else [sent], *lines)
+                    self.assertEqual((outcome.verdict, outcome.why), (verdict.FAILED, self.as_card_says(why.partition(": ")[2])))
+
+    def as_card_says(self, why):
+        return why.replace("wrong P1 or P2", names.status("6A86"))
+
+    def test_what_comes_in_the_place_of_a_response(self):
+        """A command of a wrong length, or a reset."""
+        outcome = self.over_usim(lambda sent: [sent + b"\0\0"] if sent[1] == decode.RESPONSE else [sent], "command MORE TIME", "response result 00")
+        self.assertEqual((outcome.verdict, outcome.why),
+                         (verdict.FAILED, f"no TERMINAL RESPONSE comes: the TERMINAL RESPONSE 801400000C.. is answered 6700, {names.status('6700')}"))
+
+        class Restarts(able_terminal.AbleTerminal):
+            def carry_out(self, command):
+                return self._restart()
+
+        for command, hint in (("MORE TIME", ""), ("REFRESH qualifier 04", "; for a REFRESH that resets the card a step `restart` asks")):
+            self.assertEqual(self.told(undertest.InPython(Restarts), f"command {command}", "response result 00"),
+                             (verdict.FAILED, "no TERMINAL RESPONSE comes: the card is reset in its place" + hint, "response result 00"))
+
+    def test_a_command_that_waits_for_its_user(self):
+        """Where no line says what he does, nothing can be said of the terminal; but of a command that it must answer by itself."""
+        asking, why = "command DISPLAY TEXT qualifier 80 text A", "no TERMINAL RESPONSE comes: the command waits for the user, and no line `user` stands after it"
+        for lines in ((asking, "response result 00"), ("user ok", asking, "response result 00"), (asking, "response any")):
+            with self.subTest(lines=lines):
+                self.assertEqual(self.told(undertest.InPython(), *lines)[:2], (verdict.INCONCLUSIVE, why))
+        self.assertEqual(self.told(undertest.InPython(), asking, "response result 32")[:2], (verdict.FAILED, "no TERMINAL RESPONSE comes"))
+        self.assertEqual(self.told(undertest.InPython(), asking, "user press", "response result 00")[:2], (verdict.FAILED, "no TERMINAL RESPONSE comes"))
+
+    def test_a_response_to_what_its_user_cannot_do(self):
+        """A terminal that ends the session then is none that fails."""
+        class Ends(able_terminal.AbleTerminal):
+            def _type(self, text):
+                return super()._type(text) or self._end(handset.ENDED)
+
+        lines = ("command GET INPUT text A length 1 3", "user type abcdef", "response result 00 more")
+        self.assertEqual(self.told(undertest.InPython(Ends), *lines),
+                         (verdict.INCONCLUSIVE, "`abcdef` has 6 characters, and the command asks for 1 to 3", "user type abcdef"))
+
+    def test_an_entry_that_is_not_in_the_menu(self):
+        menu = ("command SET UP MENU title M item 1 A item 2 B", "response result 00")
+        for more in ((), ("command MORE TIME", "response result 00")):
+            self.assertEqual(self.told(undertest.InPython(), *menu, *more, "user pick 7", "envelope menu selection identifier 7"),
+                             (verdict.INCONCLUSIVE, "the menu has no entry 7", "user pick 7"))
+        self.assertEqual(self.told(undertest.InPython(), *menu, "user pick 7", "no envelope")[0], verdict.PASSED)
+
+    def test_what_is_shown_last_is_in_the_trace(self):
+        """Also where no step looks for it."""
+        class Looks(undertest.InPython):
+            def look(self):
+                self.terminal.card.note("text Last")
+
+        outcome = verdict.judged(read("command MORE TIME", "response result 00")[0], Looks(), Obliging())
+        self.assertEqual((outcome.verdict, outcome.player.trace[-1]), (verdict.PASSED, "* text Last"))
 
     def test_a_terminal_that_resets_the_card_of_itself(self):
         class Restarts(undertest.InPython):
@@ -1229,6 +1343,79 @@ class Tool(unittest.TestCase):
             self.assertEqual(tool(path, "--on", "telephone", "--junit", report).returncode, 2)
             self.assertFalse(os.path.exists(report))
 
+    def test_names_that_are_there_twice(self):
+        """The verdicts of two files' sequences of one name are told apart by their order; where one of them isn't played, nothing is known."""
+        lines = ("command MORE TIME", "response result {}")
+        with tempfile.TemporaryDirectory() as folder:
+            one, other, known = (os.path.join(folder, name) for name in ("1.sequence", "2.sequence", "known.tap"))
+
+            def put(path, result):
+                with open(path, "w", encoding="utf-8") as out:
+                    out.write("\n".join(("sequence a", *lines)).format(result) + "\n")
+            put(one, "00")
+            put(other, "30")
+            with open(known, "w", encoding="utf-8") as out:
+                out.write(tool(one, other, "--tap").stdout)
+            self.assertEqual(tool(one, other, "--known", known).returncode, 0)
+            for words, told in (((other, one), [f"{other}:1: a: failed, and passed before", f"{one}:1: a: passed, and failed before"]),
+                                ((one,), [f"{one}:1: a: passed, and 2 sequences of this name before"])):
+                done = tool(*words, "--known", known)
+                self.assertEqual(done.returncode, 1)
+                for line in told:
+                    self.assertIn(line + "\n", done.stdout)
+            put(one, "31")
+            done = tool(one, other, "--known", known)
+            self.assertEqual(done.returncode, 1)
+            self.assertIn(f"{one}:1: a: failed, and passed before\n1 verdict other than before\n", done.stdout)
+
+    def test_files_that_are_read_alone(self):
+        """Nothing is played: there is no terminal."""
+        with tempfile.TemporaryDirectory() as folder:
+            path = self.put(folder, *self.PASSES, *self.FAILS)
+            done = tool(path, "--read", "--on", "nobody")
+            self.assertEqual((done.returncode, done.stdout), (0, "2 sequences, and no line is bad\n"))
+            path = self.put(folder, *self.PASSES, "usr ok")
+            self.assertEqual(tool(path, "--read").returncode, 2)
+
+    def test_what_is_known_and_not_played(self):
+        with tempfile.TemporaryDirectory() as folder:
+            path, known = self.put(folder, *self.PASSES, *self.FAILS), os.path.join(folder, "known.tap")
+            with open(known, "w", encoding="utf-8") as out:
+                out.write(tool(path, "--tap").stdout)
+            done = tool(path, "--only", "passes", "--known", known)
+            self.assertEqual(done.returncode, 0)
+            self.assertIn("\n1 sequence of before not among these: it fails\nall verdicts as before\n", done.stdout)
+
+    def test_a_class_with_a_neighbour(self):
+        """It is imported as beside a program."""
+        with tempfile.TemporaryDirectory() as folder:
+            path = self.put(folder, *self.PASSES)
+            with open(os.path.join(folder, "base_of_own.py"), "w", encoding="utf-8") as out:
+                out.write("from uicc.undertest import InPython\nclass Base(InPython):\n    pass\n")
+            with open(os.path.join(folder, "with_base.py"), "w", encoding="utf-8") as out:
+                out.write("from base_of_own import Base\nclass Own(Base):\n    pass\n")
+            with unittest.mock.patch.object(sys, "path", list(sys.path)):
+                self.assertEqual(tool(path, "--on", os.path.join(folder, "with_base.py") + ":Own").returncode, 0)
+
+    def test_what_is_read_is_not_written_over(self):
+        """A report's place is none of what it is made of: the sequences, the card, the known verdicts and the class stay as they are."""
+        with tempfile.TemporaryDirectory() as folder:
+            path, (_, on) = self.put(folder, *self.PASSES), self.own(folder, "pass")
+            known, card, link = (os.path.join(folder, name) for name in ("known.tap", "card.script", "link.xml"))
+            for name, text in ((known, tool(path, "--tap").stdout), (card, "".join(line + "\n" for line in open_lines(USIM)))):
+                with open(name, "w", encoding="utf-8") as out:
+                    out.write(text)
+            os.symlink(path, link)
+            for words in ((path, path), (folder, path), (path, link), (path, known, "--known", known), (path, card, "--card", card),
+                          (path, on.rpartition(":")[0], "--on", on)):
+                given, report, *more = words
+                with self.subTest(words=words):
+                    before = open_lines(report)
+                    done = tool(given, "--junit", report, *more)
+                    self.assertEqual((done.returncode, done.stdout, done.stderr),
+                                     (2, "", f"sequence: nothing is written: {report} is what this is made of, and would be lost: the result goes to another file\n"))
+                    self.assertEqual(open_lines(report), before)
+
     def test_an_interruption(self):
         """What was played is told, and of what is left that it wasn't."""
         lines = ("def poll(self):", "    if self.player.card.is_second:", "        raise KeyboardInterrupt", "    super().poll()", "played = 0",
@@ -1288,7 +1475,7 @@ class Tool(unittest.TestCase):
                 out.write(b"sequence \xFF\n")
             for words, why in (
                     ((os.path.join(folder, "none"),), "no file is there"), ((folder + "/own.py",), "own.py:1: no line begins with `class`"),
-                    ((os.path.join(folder, "bytes.sequence"),), "is text in UTF-8"),
+                    ((os.path.join(folder, "bytes.sequence"),), "/bytes.sequence: the file is no text in UTF-8: the byte FF stands in line 1, at 10\n"),
                     ((os.path.join(folder, "no.d"),), "no file is there"), ((good, "--only", "never"), "no sequence has `never` in its name"),
                     ((good, "--on", "telephone"), "no terminal is called telephone: python, phone, ofono, modem, reader, or FILE.py:CLASS"),
                     ((good, "--on", "modem:70000"), "a port is 0 to 65535, and not 70000"), ((good, "--on", "reader:x"), "a port is 0 to 65535, and not x"),

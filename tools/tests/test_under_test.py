@@ -63,6 +63,13 @@ class TheHandset(unittest.TestCase):
                 found = sequence.read("sequence one\n" + lines, "a")[0].commands()
                 self.assertEqual(sending.rows_for([one.raw for one in found]), rows)
 
+    def test_what_no_applet_sends(self):
+        """It is told with all that the command says: its type alone may be one that applets send."""
+        given = sequence.read("sequence one\ncommand SET UP MENU title LargeMenu1 item 1 A\nresponse result 00\n", "a.sequence")
+        (told,) = verdicts(undertest.OfPhone(), given).values()
+        self.assertEqual(told, (verdict.UNSUPPORTED, "no applet sends this command as it stands here: SET UP MENU with the qualifier 00, `LargeMenu1`, "
+                                                     "1 `A`; docs/SEQUENCES.md has those that one does, under `phone`"))
+
     def test_it_is_judged_as_the_one_in_python(self):
         found = in_the_box()
         by_phone = {name: told for name, told in verdicts(undertest.OfPhone(), found).items() if told[0] != verdict.UNSUPPORTED}
@@ -177,6 +184,21 @@ class OfonosUser(unittest.TestCase):
         terminal.phone.asked_when.return_value = [[0.0, ["DisplayText", "Hi\nthere", 0, True]]]
         terminal.look()
         self.assertEqual(given.trace, ["* text Hi.there", "* idle at..home"])
+
+    def test_a_user_of_whom_no_line_tells(self):
+        """He does nothing at a command that waits for him; a text that is cleared after a delay is seen, as ever."""
+        terminal = OfOfono.__new__(OfOfono)
+        terminal.phone = unittest.mock.Mock()
+        said = [grammar.Handset("user", "ok")]
+        for commands, acts, answers in ((["DISPLAY TEXT qualifier 80 text A"], [], [ofono.NOTHING]), (["DISPLAY TEXT text A"], [], [{"value": None}]),
+                                        (["DISPLAY TEXT qualifier 80 text A"], said, [{"value": None}]),
+                                        (["DISPLAY TEXT qualifier 80 text A", "GET INPUT text A length 1 2"], said, [{"value": None}, ofono.NOTHING]),
+                                        (["MORE TIME"], [], [])):
+            with self.subTest(commands=commands, acts=acts):
+                lines = "".join(f"command {one}\nresponse result 00\n" for one in commands)
+                raws = [one.raw for one in sequence.read("sequence one\n" + lines, "a.sequence")[0].commands()]
+                terminal.prepare(raws, acts)
+                self.assertEqual(list(terminal.phone.answer.call_args.args), answers)
 
     def test_answers(self):
         for command, act, answer in self.ANSWERS:

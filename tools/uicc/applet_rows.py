@@ -14,7 +14,7 @@ TABLE = os.path.join("crates", "unit_trials", "data", "applets.table")
 LONG_RUN = 8
 LONGEST_TEXT = 20
 # what stands before why a definition says nothing, and before the line after which a row isn't tried
-UNKNOWN, NOT_TRIED = "not known: ", "not tried, after line "
+UNKNOWN, NOT_TRIED, NO_ROW = "not known: ", "not tried, after line ", "not a row: "
 # the forms of rows, and those that go on with the applet of the rows before
 FORMS = {
     "applet": ["`applet KIND KEPT`"], "wake": ["`wake KEPT`"], "on": ["`on STIMULUS`"], "boxed": ["`boxed KIND KEPT STIMULUS`"],
@@ -23,6 +23,7 @@ FORMS = {
 OF_APPLET = ("wake", "on")
 
 
+SPACED = "`5461706520696E`"
 # the words of each stimulus
 STIMULI = {"event": ("CODE", "BODY"), "response": ("RESULT", "ITEM", "TEXT"), "timer": ("TIMER",), "went": (), "refused": ()}
 
@@ -33,10 +34,12 @@ class NotARow(Exception):
 
 @dataclasses.dataclass(frozen=True)
 class Row:
+    """A row; `of` says of one that goes on with an applet which that is, and the line that it begins at."""
     line: int
     words: tuple
     wanted: str
     differs: bool
+    of: str = ""
 
 
 # the words of a row
@@ -78,6 +81,8 @@ def stimulus(words):
         raise NotARow(f"a stimulus is {', '.join(STIMULI)}, and not `{name}`")
     if len(given) != len(STIMULI[name]):
         lacking = STIMULI[name][len(given):]
+        if any(word.startswith('"') and not (word.endswith('"') and len(word) > 1) for word in given):
+            raise NotARow(f"a text in quotes has no space in it: it is written in hexadecimal digits, as {SPACED}")
         raise NotARow(f"`{' '.join((name, *STIMULI[name]))}` "
                       + (f"lacks {' and '.join(lacking)}" + (", which is `-` where it is empty" if lacking[-1] in ("BODY", "TEXT") else "")
                          if lacking else f"has {parts_in_words(len(given) - len(STIMULI[name]))} too many"))
@@ -173,12 +178,17 @@ def spelling(row, shown):
 # rows
 
 def rows_of(text):
+    of = ""
     for number, line in enumerate(text.splitlines(), 1):
         if not line or line.startswith("#"):
             continue
         given, _, wanted = line.partition(" => ")
         words = tuple(given.split())
-        yield Row(number, words[words[:1] == ("differs",):] or ("=>",), wanted, words[:1] == ("differs",))
+        is_other = words[:1] == ("differs",)
+        words = words[is_other:] or ("=>",)
+        if words[0] == "applet":
+            of = f"of the {' '.join(words[:2])}, line {number}"
+        yield Row(number, words, wanted, is_other, of if words[0] in OF_APPLET else "")
 
 
 def why_never(wanted):
@@ -249,7 +259,7 @@ class Trial:
         try:
             return self.carry_out(row.words)
         except NotARow as fault:
-            found = f"not a row: {fault}"
+            found = f"{NO_ROW}{fault}"
         except Unknown as fault:
             found = f"{UNKNOWN}{fault}"
         self.lost = self.lost or (row if row.words[0] in ("applet", *OF_APPLET) else None)
@@ -263,7 +273,7 @@ def differing(known, text):
         count += 1
         shown, never = trial.shown(row), why_never(row.wanted)
         if never and not shown.startswith(NOT_TRIED):
-            found.append((row, f"not a row: {never}"))
+            found.append((row, f"{NO_ROW}{never}"))
             continue
         if shown.startswith(NOT_TRIED) or (shown == row.wanted) == row.differs:
             found.append((row, shown))

@@ -36,7 +36,7 @@ PIN_COMMANDS = (0x20, 0x24, 0x26, 0x28, 0x2C)
 FOR_ADM = (0x20, 0x24)
 # objects of a proactive command, and the bit of a tag that says that the terminal must know it
 TITLE, TEXT, TONE, COMPREHENSION = 0x05, 0x0D, 0x0E, 0x80
-GET_INKEY, GET_INPUT, SELECT_ITEM = 0x22, 0x23, 0x24
+GET_INKEY, GET_INPUT, SELECT_ITEM, SET_UP_MENU = 0x22, 0x23, 0x24, 0x25
 
 
 class CardError(Exception):
@@ -318,6 +318,8 @@ class Card:
         return answer
 
     _has_power = True
+    # the entries of the menu that was fetched last, by their numbers; None where none was
+    _menu = None
 
     def _note(self, command, answer):
         apdu = decode.Apdu(command)
@@ -634,12 +636,15 @@ class Card:
     def fetch(self) -> Proactive | None:
         """The proactive command that is to be fetched; None where none is."""
         if self.pending is None:
+            self._simulator.expect_on()
             return None
         raw = self._command(decode.FETCH, 0, 0, le=self.pending, toolkit=True).data
         self.pending = None
         found = tuple(tlv.objects(tlv.template(raw)[1]))
         number, command, qualifier = next(value for tag, _, value in found if tag == 0x01)
         self._fetched = Proactive(raw, number, command, qualifier, found)
+        if command == SET_UP_MENU:
+            self._menu = self._fetched.items
         return self._fetched
 
     def respond(self, result: int = 0x00, text: str | None = None, item: int | None = None, objects: bytes | str = b"") -> Answer:
@@ -669,9 +674,10 @@ class Card:
             raise ValueError(f"an entry of the menu is picked by its number, of one byte, and not by {item!r}")
         if not self._is_profile_sent:
             raise CardError("the card tells its menu once it knows the terminal: `profile()` comes first, and after each reset")
-        entries = self._toolkit.menu()
-        if not self._toolkit.doubt and item not in entries:
-            listed = ", ".join(f"{number} ({text.decode('latin-1')})" for number, text in sorted(entries.items()))
+        # where the definitions don't say what the applets do, the menu that was fetched last does
+        entries = self._menu if self._toolkit.doubt else {number: text.decode("latin-1") for number, text in self._toolkit.menu().items()}
+        if entries is not None and item not in entries:
+            listed = ", ".join(f"{number} ({text})" for number, text in sorted(entries.items()))
             raise CardError(f"the card's menu has no entry {item}: {listed or 'it is empty'}; an entry is the shelf of its applet plus one")
         return self.envelope(b"\xD3\x07\x82\x02\x01\x81" + tlv.written(0x10, bytes((item,))))
 
@@ -726,7 +732,7 @@ class Card:
         """Resets the card, which gives it power again. PowerLost, where it loses it in that."""
         self._follower.reset()
         self._toolkit.reset()
-        self.pending = self._fetched = None
+        self.pending = self._fetched = self._menu = None
         self._is_profile_sent = False
         self._arm()
         self._has_power = self._simulator.reset()

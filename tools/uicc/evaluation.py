@@ -77,8 +77,13 @@ def bound_by(pattern, value):
         return {} if value == pattern[1] else None
     if kind == "empty":
         return {} if value == () else None
+    if kind == "made" and isinstance(value, Made) and value.name == pattern[1]:
+        if len(pattern[2]) != len(value.parts):
+            count, given = len(value.parts), len(pattern[2])
+            raise Unknown(f"`{value.name}` has {count} part{'s' * (count != 1)}, and a clause has it with {given}")
+        return all_bound(pattern[2], value.parts)
     if kind == "made":
-        return all_bound(pattern[2], value.parts) if isinstance(value, Made) and value.name == pattern[1] else None
+        return None
     if kind == "head":
         return all_bound(pattern[1:], (value[0], value[1:])) if value else None
     return all_bound(pattern[1:], value)
@@ -107,9 +112,9 @@ class Definitions:
             return self._called(name, values)
         except RecursionError:
             raise Unknown(f"{name} has no end that is reached") from None
-        except (AttributeError, IndexError, KeyError, TypeError, ValueError) as fault:
+        except (AttributeError, IndexError, KeyError, TypeError, ValueError):
             # what the prover takes has each part where it is looked for
-            raise Unknown(f"{name} is made of parts that don't fit ({fault})") from None
+            raise Unknown(f"{name} is made of parts that don't fit") from None
 
     def _called(self, name, values):
         for patterns, body in self.definitions[name]:

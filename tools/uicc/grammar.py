@@ -354,7 +354,7 @@ def read_read_fail(words):
 def read_user(words):
     act = words.take("what the user does")
     if act not in USER_ACTS:
-        raise Wrong(f"a user does no `{act}`: {FORMS['user']}")
+        raise Wrong(f"`{act}` is nothing that a user does: {FORMS['user']}")
     if act == "type":
         return Handset("user", act, read_typed(words))
     if act == "pick":
@@ -381,7 +381,7 @@ def read_typed(words):
 def read_net(words):
     act = words.take("what the network does")
     if act not in NET_ACTS:
-        raise Wrong(f"a network does no `{act}`: {FORMS['net']}")
+        raise Wrong(f"`{act}` is nothing that a network does: {FORMS['net']}")
     words.form = FORMS["net " + act]
     if act == "place":
         return Handset("net", act, hexadecimal("HEX", words.take("HEX"), LONGEST_PLACE))

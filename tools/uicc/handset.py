@@ -12,9 +12,11 @@
 Its rules are those of `uicc_run phone`: over the same card, the same lines show the same trace, and so do the notes in it. The card may
 be any object with the methods `transmit` and `reset` and the list `trace` of a `Card`."""
 import dataclasses
+import difflib
+import re
 
 from . import decode, names, tlv
-from .card import PROFILE, PowerLost, as_answer, as_bytes
+from .card import PROFILE, CardError, PowerLost, as_answer, as_bytes
 from .grammar import Handset, Plan, Reset, Wrong, read_line
 
 SELECT_MF = bytes.fromhex("00A4000C023F00")
@@ -30,6 +32,7 @@ REFRESH, MORE_TIME, POLL_INTERVAL, EVENT_LIST = 0x01, 0x02, 0x03, 0x05
 TONE, TEXT, INKEY, INPUT, ITEMS, MENU, LOCAL, TIMERS, IDLE_TEXT = 0x20, 0x21, 0x22, 0x23, 0x24, 0x25, 0x26, 0x27, 0x28
 CARD_RESET, LOCATION = 0x04, 0x00
 START, DEACTIVATE, GET = 0x00, 0x01, 0x02
+CLEARED_BY_USER = 0x80
 KEYPAD, DISPLAY, EARPIECE, CARD, TERMINAL = 0x01, 0x02, 0x03, 0x81, 0x82
 LOCATION_EVENT, ACTIVITY_EVENT, IDLE_EVENT = 0x03, 0x04, 0x05
 MENU_SELECTION, CALL_CONTROL, EVENT_DOWNLOAD, TIMER_EXPIRATION = 0xD3, 0xD4, 0xD6, 0xD7
@@ -55,6 +58,25 @@ DONE, ENDED, BACK, NO_RESPONSE, HELP = (Reply(bytes((code,))) for code in (0x00,
 BUSY, UNABLE, NETWORK_BUSY = Reply(b"\x20\x01"), Reply(b"\x20\x00"), Reply(b"\x21\x00")
 BEYOND, NOT_UNDERSTOOD, BAD_DATA, MISSING = (Reply(bytes((code,))) for code in (0x30, 0x31, 0x32, 0x36))
 NOT_RUNNING = b"\x24"
+
+
+class Answers(dict):
+    """What a handset answers at once: for the names of commands a Reply each. ValueError for a name that no command has, TypeError for what is
+    no Reply."""
+
+    def __init__(self, given=()):
+        super().__init__()
+        for name, reply in dict(given).items():
+            self[name] = reply
+
+    def __setitem__(self, name, reply):
+        known = names.table("toolkit")["commands"].values()
+        if name not in known and not re.fullmatch("type [0-9A-F]{2}", str(name)):
+            near = difflib.get_close_matches(str(name).upper(), known, 1)
+            raise ValueError(f"no command is called {name!r}" + (f": is {near[0]!r} meant?" if near else "; one that has no name is 'type 6F', say"))
+        if not isinstance(reply, Reply):
+            raise TypeError(f"{name} is answered by a Reply, Reply(b\"\\x20\\x01\") say, and not {reply!r}")
+        super().__setitem__(name, reply)
 
 
 class Unread(Exception):
@@ -180,6 +202,12 @@ def details_of(raw):
     return found if len(found) == 3 else NO_DETAILS
 
 
+def waits_for_user(raw):
+    """Whether a command is answered when its user did something: of DISPLAY TEXT that is said by its qualifier (ETSI TS 102 223, 6.4.1)."""
+    _, kind, qualifier = details_of(raw)
+    return kind in (INKEY, INPUT, ITEMS) or kind == TEXT and bool(qualifier & CLEARED_BY_USER)
+
+
 def read(raw):
     """The proactive command in what FETCH answered. Unread, where the handset can't do it."""
     found = objects_of(raw)
@@ -242,9 +270,10 @@ class Terminal:
     handset does."""
 
     def __init__(self, card, profile=PROFILE, answers=None):
-        self.card, self.profile, self.answers = card, as_bytes(profile), dict(answers or {})
+        self.card, self.profile, self.answers = card, as_bytes(profile), Answers(answers or {})
         self.place, self.clock = None, 0
         self._moment, self._timed, self._refreshed, self._commands = 0, False, False, 0
+        self._is_on = False
         self._forget()
 
     def _forget(self):
@@ -330,6 +359,8 @@ class Terminal:
     # a line, up to where nothing more is to be done
 
     def _line(self, act, seconds=None):
+        if not self._is_on and act not in (self._begin, self._restart):
+            raise CardError("the handset isn't switched on: `start()` does so")
         self.clock += seconds or 0
         self._moment, self._timed, self._refreshed, self._commands = self.clock, seconds is not None, False, 0
         if self.is_silent:
@@ -363,6 +394,7 @@ class Terminal:
         self.card.trace.append("* " + text)
 
     def _begin(self):
+        self._is_on = True
         self._forget()
         self._send(SELECT_MF)
         return self._send(with_data(decode.PROFILE, self.profile))

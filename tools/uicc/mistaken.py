@@ -57,6 +57,16 @@ def expect(content, path, *wanted):
         raise Mistaken(f"{path} is {what}: {by}")
 
 
+def text_of(content, path):
+    """The text of a file's bytes. Mistaken, with the place of the first byte that is none in UTF-8."""
+    try:
+        return content.decode()
+    except UnicodeDecodeError as fault:
+        before = content[:fault.start]
+        line, column = before.count(b"\n") + 1, len(before) - before.rfind(b"\n")
+        raise Mistaken(f"{path}: the file is no text in UTF-8: the byte {content[fault.start]:02X} stands in line {line}, at {column}") from None
+
+
 def expect_card(path):
     """Mistaken, where a file neither describes a card nor is its image; the bytes of the file."""
     with open(path, "rb") as file:

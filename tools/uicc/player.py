@@ -26,6 +26,9 @@ FETCHED, RESPONDED, STRAY, TOLD, PROFILED, ASKED, RESET = "fetch", "response", "
 FOR_CARD = "for the card"
 # a FETCH that gets no command: of a wrong length, or where nothing is announced; their data are the command and the status
 MISFETCHED, UNANNOUNCED = "fetch of a wrong length", "fetch of nothing"
+# a command of the toolkit whose header isn't as it must be (ETSI TS 102 221, 11.2): its P1 P2, or its length; its data are it and its status
+MISHEADED = "command with a wrong header"
+HEADED = {decode.PROFILE: "TERMINAL PROFILE", decode.FETCH: "FETCH", decode.RESPONSE: "TERMINAL RESPONSE", decode.ENVELOPE: "ENVELOPE"}
 OF_CARD = {decode.RESPONSE: STRAY, decode.ENVELOPE: TOLD, decode.PROFILE: PROFILED, decode.STATUS: ASKED}
 
 
@@ -195,7 +198,12 @@ class Player:
 
     def _answer(self, command):
         apdu = decode.Apdu(command)
-        of_toolkit = apdu.ok and command[0] & 0xF0 == TOOLKIT_CLASS
+        of_toolkit = command[:1] != b"" and command[0] & 0xF0 == TOOLKIT_CLASS
+        if of_toolkit and command[1:2] and command[1] in HEADED and (not apdu.ok or command[2:4] != bytes(2)):
+            answer = as_answer(self.card.transmit(command))
+            self._hear(MISHEADED, command + bytes.fromhex(str(answer.status)))
+            return CARD, answer
+        of_toolkit = of_toolkit and apdu.ok
         if of_toolkit and apdu.ins == decode.FETCH and self._announced:
             return PLAYER, self._fetch(command, apdu)
         if of_toolkit and apdu.ins == decode.RESPONSE and self._fetched is not None:

@@ -35,9 +35,9 @@ def tap(results):
             yield from ("#" + line for line in one.lines)
 
 
-def refuse_unwritable(path):
-    """OSError, where no file can be written at a path, and Kept, where something else than a report is there; what is there stays as it is."""
-    replacing.expect_result(path, replacing.REPORT)
+def refuse_unwritable(path, *sources):
+    """OSError, where no file can be written at a path, and Kept, where a source of it or something else than a report is there; what is there stays as it is."""
+    replacing.expect_result(path, replacing.REPORT, *sources)
     is_there = os.path.exists(path)
     with open(path, "a", encoding="utf-8"):
         pass

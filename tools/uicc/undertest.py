@@ -10,7 +10,7 @@ import threading
 import traceback
 
 from . import decode, grammar, process, sending
-from .handset import Terminal, details_of
+from .handset import DETAILS, DEVICES, Terminal, details_of, objects_of
 from .sequence import MORE_ACTS
 
 
@@ -164,6 +164,12 @@ class InPython(UnderTest):
             raise Unable(f"its user can't `{said.act}`") from None
 
 
+def objects_text(raw):
+    """What a command says beside its type, in words: its qualifier and its objects."""
+    found = [decode.object_text(tag, value, False) for tag, _, value in objects_of(raw) or () if tag not in (DETAILS, DEVICES)]
+    return ", ".join([f"with the qualifier {details_of(raw)[2]:02X}", *found])
+
+
 # what a person at a terminal is told to do
 INSTRUCTIONS = {
     "ok": "say yes, or that it was seen, or take what stands there", "back": "go back", "end": "end the session", "none": "do nothing",
@@ -200,8 +206,10 @@ class OfPhone(UnderTest):
         commands = [step.raw for step in sequence.commands()]
         self.section = sending.rows_for(commands)
         if self.section is None:
-            raise Unsupported("no applet of the card sends these commands: " + ", ".join(
-                f"{decode.title_proactive(raw)} with the qualifier {details_of(raw)[2]:02X}" for raw in commands))
+            raise Unsupported(("no applet sends this command as it stands here: " if len(commands) == 1 else
+                               "no applet sends these commands as they stand here, one after the other: ")
+                              + ", ".join(f"{decode.title_proactive(raw)} {objects_text(raw)}" for raw in commands)
+                              + "; docs/SEQUENCES.md has those that one does, under `phone`")
         self.wanted = {sending.body(raw) for raw in commands}
 
     def begin(self, player):

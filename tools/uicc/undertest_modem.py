@@ -154,10 +154,13 @@ class OfOfono(UnderTest):
             self.phone.answer()
             return
         if len(asking) == 1:
-            asking *= len(answers)
+            asking *= max(1, len(answers))
         pairs = list(zip(asking, answers))
         self.prepared = [one for raw, one in pairs if answer_to(raw, one)]
-        self.phone.answer(*(answer_to(raw, one) or ofono.NOTHING for raw, one in pairs))
+        # where no line says what the user does, nobody does it for him
+        self.phone.answer(*(answer_to(raw, one) or ofono.NOTHING for raw, one in pairs),
+                          *(ofono.NOTHING if handset.waits_for_user(raw) else {"value": None if handset.details_of(raw)[1] == handset.TEXT else True}
+                            for raw in asking[len(pairs):]))
 
     def poll(self):
         with self.phone.modem.lock:

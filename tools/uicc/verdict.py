@@ -5,9 +5,10 @@ import time
 
 from . import decode, grammar, handset, names, tlv, tree
 from .handset import DETAILS, details_of
-from .player import ASKED, FETCHED, FOR_CARD, MISFETCHED, PROFILED, RESET, RESPONDED, STRAY, TOLD, UNANNOUNCED, Player
+from .player import (
+    ASKED, FETCHED, FOR_CARD, HEADED, MISFETCHED, MISHEADED, PROFILED, RESET, RESPONDED, STRAY, TOLD, UNANNOUNCED, Player)
 from .process import Ended, NotBuilt
-from .sequence import Act, Give, Poll, Quiet, Respond, Restart, Shown, Step, Tell, has
+from .sequence import RESULT, Act, Give, Poll, Quiet, Respond, Restart, Shown, Step, Tell, has
 from .undertest import Lost, NotBack, Unable, Unsupported, limited, place_of, told, wrong_value
 from .wording import flag_text, label_of
 
@@ -20,7 +21,9 @@ LOOK_SECONDS = 0.2
 NO_RESPONSE = 0x12
 ITEM, LENGTH = 0x0F, 0x11
 # what counts for no step where it comes before the sequence's first command, or between the card's own
-BESIDE = (RESET, PROFILED, ASKED, MISFETCHED, UNANNOUNCED)
+BESIDE = (RESET, PROFILED, ASKED, MISFETCHED, UNANNOUNCED, MISHEADED)
+# how much of a command is told: its header and its length
+HEADER = 5
 # how long a method of a terminal may take that says nothing else, and at least
 USUAL_SECONDS, LEAST_SECONDS = 10, 1
 # what the terminal's user does at a command of the card's own, which isn't the sequence's
@@ -67,12 +70,11 @@ class Outcome:
     lost: str = ""
 
 
-def row_of(one, flag, value):
-    """An object that must come beside the one that came. What the flag says is told where it is another one."""
-    wanted, found = one.told(), decode.object_text(one.tag, value, False)
+def rows_of(one, flag, value):
+    """An object that must come beside the one that came; and its flag (CR), where that is another one."""
+    yield Row(one.label, one.told(), decode.object_text(one.tag, value, False), one.fits(one.flag, value))
     if one.flag not in (None, flag):
-        wanted, found = f"{wanted}, {flag_text(one.flag)}", f"{found}, {flag_text(flag)}"
-    return Row(one.label, wanted, found, one.fits(flag, value))
+        yield Row(f"flag of the {one.label}", flag_text(one.flag), flag_text(flag), False)
 
 
 def compared(wanted, found, has_more):
@@ -84,7 +86,7 @@ def compared(wanted, found, has_more):
             rows.append(Row(one.label, one.told(), None, one.optional))
             continue
         _, flag, value = left.pop(place)
-        rows.append(row_of(one, flag, value))
+        rows += rows_of(one, flag, value)
     return rows + [Row(label_of(tag), None, decode.object_text(tag, value, False), has_more) for tag, _, value in left]
 
 
@@ -101,12 +103,23 @@ def check(what, wanted, content, has_more):
         raise Differs(f"{what} isn't as it must be", rows)
 
 
-def vain(said, raw):
-    """Why a user can't do something at a command, by what the command says; None where he can."""
+def items_of(raw):
+    return [value[0] for tag, _, value in handset.objects_of(raw) or () if tag == ITEM and value]
+
+
+def is_of_user(step):
+    """Whether a response that must come says what the user did: a result of 0X or 1X. Others a terminal gives by itself."""
+    wanted = next((one.pattern for one in step.objects if one.tag == RESULT), "0")
+    return all(part[:1] in ("0", "1") for part in wanted.split("|"))
+
+
+def vain(said, raw, menu):
+    """Why a user can't do something at a command, by what the command says, or the menu that was given last; None where he can."""
     kind, found = details_of(raw)[1], handset.objects_of(raw) or ()
     if said.act == "pick" and kind == handset.ITEMS:
-        items = [value[0] for tag, _, value in found if tag == ITEM and value]
-        return None if said.value in items else f"the command has no item {said.value}"
+        return None if said.value in items_of(raw) else f"the command has no item {said.value}"
+    if said.act == "pick" and menu and said.value not in items_of(menu):
+        return f"the menu has no entry {said.value}"
     length = next((value for tag, _, value in found if tag == LENGTH and len(value) == 2), None)
     if said.act == "type" and kind == handset.INPUT and length:
         count = len(said.value)
@@ -144,6 +157,8 @@ class Run:
         self.is_user_asked = False
         # the step in which its user was to do what can't be done at this command, and why it can't
         self.vain = None
+        # the menu that the sequence gave last, and whether the user did something since the command that was given last
+        self.menu, self.has_user_acted = None, False
         self.unseen = []
         # why nothing can be played after this
         self.lost = ""
@@ -161,6 +176,14 @@ class Run:
                 STEPS[type(step)](self, step)
         self.step = None
         self._end()
+
+    def end(self):
+        """The sequence is over; what was shown last is told before that."""
+        try:
+            if not self.lost:
+                self.call("look")
+        finally:
+            self.call("end")
 
     def call(self, name, *given, more=0):
         """Has the terminal do something, and answers what it does. NotBack, where it hasn't in time."""
@@ -197,7 +220,7 @@ class Run:
             nobody = self.call("missing")
             if nobody:
                 raise Undecided(f"{nobody} within {seconds_text(self.seconds)}")
-            raise Differs("no TERMINAL PROFILE comes")
+            raise Differs(self._misheaded(decode.PROFILE) or "no TERMINAL PROFILE comes")
         lacking = [name for name in self.sequence.needs if not has(told.data, name)]
         if lacking:
             raise Unsupported("its terminal profile doesn't have " + ", ".join(lacking))
@@ -248,7 +271,9 @@ class Run:
     def _give(self, step, after):
         following = next((other for other in after if isinstance(other, Give)), None)
         self.given, self.following = step, following if following and following.follows else None
-        self.vain = None
+        self.vain, self.has_user_acted = None, False
+        if step.details[1] == handset.MENU:
+            self.menu = step.raw
         if not step.follows:
             self._let_card_begin()
             # those that are announced by the answers to the responses before them have to be there by then
@@ -269,9 +294,14 @@ class Run:
             return ": the card is reset before that, and the command is gone with the reset"
         place = self._find(MISFETCHED, UNANNOUNCED)
         if place is None:
-            return ""
-        data = self.player.heard[place].data
-        return f": the FETCH {decode.hexed(data[:-2])} is answered {decode.hexed(data[-2:])}, {names.status(decode.hexed(data[-2:]))}"
+            misheaded = self._misheaded(decode.FETCH)
+            return misheaded and ": " + misheaded
+        return ": " + refused_text(self.player.heard[place].data)
+
+    def _misheaded(self, *instructions):
+        """What is told of a command of the toolkit with a wrong header, of these alone where some are given; nothing where none came."""
+        found = [heard.data for n, heard in enumerate(self.player.heard) if n not in self.taken and heard.kind == MISHEADED]
+        return next((refused_text(data) for data in found if not instructions or data[1] in instructions), "")
 
     def _respond(self, step):
         heard = self._wait(RESPONDED, step.seconds)
@@ -284,15 +314,31 @@ class Run:
                 raise Undecided(why)
             if asked and self.terminal.has_person:
                 raise Undecided(f"the terminal's user did nothing{self._told_seconds(step)}")
-            raise Differs(f"no TERMINAL RESPONSE comes{self._told_seconds(step)}")
+            raise self._unanswered(step)
         if not step.objects:
             return
         try:
             check("the TERMINAL RESPONSE", self._objects(step), heard.data, step.has_more)
         except Differs:
+            if self.vain:
+                self.step, why = self.vain
+                raise Undecided(why) from None
             if asked and self.terminal.has_person and (decode.result_of(heard.data) or b"")[:1] == bytes((NO_RESPONSE,)):
                 raise Undecided("the terminal's user did nothing, so it says") from None
             raise
+
+    def _unanswered(self, step):
+        """What is said where no response comes, by what came in its place."""
+        what = f"no TERMINAL RESPONSE comes{self._told_seconds(step)}"
+        misheaded = self._misheaded(decode.RESPONSE)
+        if misheaded:
+            return Differs(f"{what}: {misheaded}")
+        if self._find(RESET) is not None:
+            hint = "; for a REFRESH that resets the card a step `restart` asks" if self.given and self.given.details[1] == handset.REFRESH else ""
+            return Differs(f"{what}: the card is reset in its place{hint}")
+        if self.given and handset.waits_for_user(self.given.raw) and is_of_user(step) and not self.has_user_acted:
+            return Undecided(f"{what}: the command waits for the user, and no line `user` stands after it")
+        return Differs(what)
 
     def _objects(self, step):
         """What a response must have: the number of the command is that which it was fetched with."""
@@ -305,7 +351,11 @@ class Run:
         if heard is None:
             if asked and self.terminal.has_person:
                 raise Undecided(f"the terminal's user did nothing{self._told_seconds(step)}")
-            raise Differs(f"no ENVELOPE comes{self._told_seconds(step)}")
+            if self.vain:
+                self.step, why = self.vain
+                raise Undecided(why)
+            misheaded = self._misheaded(decode.ENVELOPE)
+            raise Differs(f"no ENVELOPE comes{self._told_seconds(step)}" + (misheaded and ": " + misheaded))
         try:
             tag, content = tlv.template(heard.data)
         except tlv.BadTlv as fault:
@@ -376,7 +426,8 @@ class Run:
         self.taken |= {n for n, heard in enumerate(self.player.heard) if heard.kind == ASKED}
         self.is_user_asked = True
         if step.said.word == "user":
-            why = self.given and vain(step.said, self.given.raw)
+            self.has_user_acted = True
+            why = self.given and vain(step.said, self.given.raw, self.menu)
             self.vain = (step, why) if why else None
         # at a terminal whose methods come back at once time doesn't pass
         more = step.said.value if step.said.word == "time" and self.terminal.seconds else 0
@@ -413,14 +464,22 @@ class Run:
         for kind, what in ((STRAY, ""),
                            (RESPONDED, "a TERMINAL RESPONSE comes that no step asks for"),
                            (UNANNOUNCED, "a FETCH comes where no command is announced"),
-                           (RESET, "the card is reset, and no step asks for it"), (TOLD, "an ENVELOPE comes that no step asks for")):
+                           (RESET, "the card is reset, and no step asks for it"), (TOLD, "an ENVELOPE comes that no step asks for"),
+                           (MISHEADED, "")):
             place = self._find(kind)
             if place is not None:
-                what = what or self._stray()
+                what = what or (self._misheaded() if kind == MISHEADED else self._stray())
                 raise Differs(what, envelope_rows(self.player.heard[place].data) if kind == TOLD else ())
 
 
 STEPS = {Respond: Run._respond, Tell: Run._tell, Quiet: Run._quiet, Restart: Run._restart, Poll: Run._poll, Shown: Run._shown, Act: Run._act}
+
+
+def refused_text(data):
+    """What is told of a command that is refused: its header with its length, and the status, which is at the end of the data."""
+    command, status = data[:-2], decode.hexed(data[-2:])
+    shown = decode.hexed(command[:HEADER]) + ".." * (len(command) > HEADER)
+    return f"the {HEADED[command[1]]} {shown} is answered {status}, {names.status(status)}"
 
 
 def template_name(tag):
@@ -473,7 +532,7 @@ def judged(sequence, terminal, card, seconds=None):
         outcome.step = run.step
     finally:
         try:
-            at_end = verdict_of(run, lambda: run.call("end"))
+            at_end = verdict_of(run, run.end)
         finally:
             outcome.player.leave()
     if outcome.verdict == PASSED:

@@ -258,9 +258,11 @@ def address_value(words):
 
 
 def time_value(words):
+    if words.take_if("any"):
+        return "??????"
     word = words.take("a time")
     if not re.fullmatch("[0-9]{2}:[0-9]{2}:[0-9]{2}", word):
-        raise Wrong(f"a time is HH:MM:SS, not {word}")
+        raise Wrong(f"a time is HH:MM:SS, or any, not {word}")
     return "".join(part[::-1] for part in word.split(":"))
 
 
@@ -345,6 +347,12 @@ READ_AS = (
     ("imeisv", 0x62, bytes_value("an IMEISV")),
 )
 OBJECTS = {word: (tag, value) for words, tag, value in READ_AS for word in words.split()}
+# words that are none, where one is wanted
+NO_OBJECTS = {
+    "from": "`from DEVICE` stands before the objects of a command or an envelope, as in `envelope event from display events idle-screen`; other "
+            "devices of a response are `object 82 8381`, say",
+    **dict.fromkeys(("to", "number", "qualifier", "without"), "it stands before the objects of a command"),
+    "devices": "device identities are `object 82 8281`, of an envelope also `from DEVICE` before its objects"}
 # what stands in the place of an object that has no word
 RAW = "object"
 
@@ -362,6 +370,8 @@ def read_object(words):
     word = words.take("an object")
     if word == RAW:
         return dataclasses.replace(raw_object(words), optional=optional)
+    if word in NO_OBJECTS:
+        raise Wrong(f"`{word}` is no object: {NO_OBJECTS[word]}")
     if word not in OBJECTS:
         raise unknown([word, *words.left], "object", OBJECTS)
     tag, value = OBJECTS[word]

@@ -1,7 +1,8 @@
 """Writes into a script with expectations what its lines show."""
 import os
 
-from . import carrying, cases, lint, process, trace
+from . import carrying, cases, filling, lint, process, trace
+from .filling import GAP
 
 
 class Unwritable(Exception):
@@ -51,7 +52,7 @@ def expecting(command, shown):
     lines = list(shown)
     if command and lines[:1] == ["> " + command.upper()] and lines[1:2] and lines[1].startswith(("< ", "! ")):
         lines = lines[1:]
-    return ["#" + line if line.startswith(("< ", "> ", "! ", "* ")) else "#= " + line for line in lines]
+    return [filling.expecting(line) for line in lines]
 
 
 def kept_or_new(old, new):
@@ -91,8 +92,21 @@ def written(text, case, run, left, before):
     tail = lines[run.ends - 1:]
     if any(line.split(" ")[0] in ("#repeat", "#chars", "#raw", "#crlf", "#end", "#met", "#plan") for line in body):
         raise Unwritable("lines of its script are made by words of the case")
+    if any(line == GAP for line in body):
+        made = filling.filled(body, places, left.trace)
+    else:
+        made = line_by_line(body, places, left.trace)
+    if tail and tail[0].startswith("#status"):
+        tail[0] = f"#status {left.status}"
+    elif left.status != 0:
+        made.append(f"#status {left.status}")
+    return "\n".join([*head, *made, *tail]) + "\n"
+
+
+def line_by_line(body, places, shown):
+    """A script with what each line of it showed below that line."""
     made, below = [], {}
-    for place, line in zip(places, left.trace):
+    for place, line in zip(places, shown):
         below.setdefault(place, []).append(line)
     pending, old = [], []
     for number, line in enumerate(body, 1):
@@ -105,12 +119,7 @@ def written(text, case, run, left, before):
         if number in below:
             word, _, rest = line.partition(" ")
             pending = expecting(rest if word == "apdu" else None, below[number])
-    made += kept_or_new(old, pending)
-    if tail and tail[0].startswith("#status"):
-        tail[0] = f"#status {left.status}"
-    elif left.status != 0:
-        made.append(f"#status {left.status}")
-    return "\n".join([*head, *made, *tail]) + "\n"
+    return made + kept_or_new(old, pending)
 
 
 def filled(text, name, words, number):

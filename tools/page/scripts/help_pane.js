@@ -30,7 +30,7 @@ const PLACES = {
         readfail: ["Memory read K of the next command fails.", "readfail 1"],
     },
     "After start: at a handset": {
-        user: ["The user has read a text (ok), ends it, goes back, doesn't answer (none), presses a key, leaves the idle screen as it is "
+        user: ["The user has read a text (ok), ends it, goes back, doesn't answer (none), presses a key, is at the idle screen again "
             + "(idle), types a text, picks an item, or dials.", "user pick 2", "user type Milk", "user ok"],
         net: ["The network tells the telephone where it is, or the telephone polls the card.", "net place 00F11000010002", "net poll"],
         time: ["N seconds pass.", "time 300"],
