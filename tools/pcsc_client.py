@@ -11,7 +11,7 @@ from smartcard.Exceptions import CardConnectionException, NoCardException
 from smartcard.System import readers
 from smartcard.scard import (
     SCARD_PROTOCOL_T0, SCARD_PROTOCOL_T1, SCARD_RESET_CARD, SCARD_SCOPE_USER, SCARD_SHARE_SHARED, SCARD_STATE_EMPTY,
-    SCARD_STATE_PRESENT, SCARD_STATE_UNAWARE, SCardEstablishContext, SCardGetStatusChange, SCardReconnect)
+    SCARD_STATE_PRESENT, SCARD_STATE_UNAWARE, SCardEstablishContext, SCardGetStatusChange, SCardReconnect, SCardReleaseContext)
 
 SECONDS = 20
 MILLISECONDS_A_LOOK = 200
@@ -31,13 +31,17 @@ def left(card):
 def awaited(state):
     """Waits until the first reader is seen in a state."""
     _, context = SCardEstablishContext(SCARD_SCOPE_USER)
-    name, seen = str(readers()[0]), SCARD_STATE_UNAWARE
-    until = time.monotonic() + SECONDS
-    while time.monotonic() < until:
-        _, found = SCardGetStatusChange(context, MILLISECONDS_A_LOOK, [(name, seen)])
-        seen = found[0][1]
-        if seen & state:
-            return
+    try:
+        name, seen = str(readers()[0]), SCARD_STATE_UNAWARE
+        until = time.monotonic() + SECONDS
+        while time.monotonic() < until:
+            _, found = SCardGetStatusChange(context, MILLISECONDS_A_LOOK, [(name, seen)])
+            seen = found[0][1]
+            if seen & state:
+                return
+    finally:
+        # a context that isn't given back is one less for those who come after
+        SCardReleaseContext(context)
     raise TimeoutError(f"the reader was not seen {'empty' if state == SCARD_STATE_EMPTY else 'with a card'} for {SECONDS} seconds")
 
 

@@ -50,8 +50,8 @@ def serve():
 
 def main():
     while True:
-        # a while without a card, or one that goes again before it is taken
-        with contextlib.suppress(TimeoutError, CardConnectionException, NoCardException):
+        # a while without a card, or one that goes again before it is taken; SystemError is pyscard's, of a context that it can't take
+        with contextlib.suppress(TimeoutError, CardConnectionException, NoCardException, SystemError):
             pcsc_client.awaited(SCARD_STATE_PRESENT)
             serve()
             pcsc_client.awaited(SCARD_STATE_EMPTY)
