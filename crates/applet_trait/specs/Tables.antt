@@ -178,9 +178,9 @@ unfoldable pub row_from : ℕ → ℕ → List ActionRow → Option (ℕ × Acti
 row_from from event all =
     find (λ placed. nat_le from placed.0 && (placed.1.event == event)) (enumerate_from 0 all)
 
--- what an action does with its argument: it shows it as a text (01), plays it as a tone (02), sends MORE TIME (03), PROVIDE LOCAL INFORMATION (04),
--- REFRESH (05) or GET INKEY (06), registers for the event (07) or deregisters (08), shows it when idle (09), or asks for a timer (0A); at another
--- action the applet is done
+-- what an action does with its argument: it shows it as a text (01), plays it as a tone (02), sends MORE TIME (03, without it), PROVIDE LOCAL
+-- INFORMATION (04), REFRESH (05) or GET INKEY (06), registers for the event (07) or deregisters (08), shows it when idle (09), or asks for a timer
+-- (0A, without it), and goes on in phase 1; at another action the applet is done
 abbrev pub acting : AppletState → ℕ → ℕ → Turn
 acting mind action argument =
     if action == SHOW then turn mind (show (argument ∷ [])) 1
@@ -209,7 +209,7 @@ next_row mind from code = at_row mind code (row_from from code (rows mind.kept))
 abbrev pub next_or_done : AppletState → Turn
 next_or_done mind = if in_phase 1 mind then next_row mind (mind.held + 1) mind.code else done mind
 
--- an event in phase 0 begins with its first row, and each later stimulus goes on with the next
+-- an event in phase 0 begins with its first row, and each later stimulus in phase 1 goes on with the next; else the applet is done
 abbrev pub table : AppletState → Stimulus → Turn
 table mind (Event code body) =
     if in_phase 0 mind then next_row mind 0 code else next_or_done mind

@@ -1,5 +1,5 @@
 -- How often the store is read for a command that answers bytes of a file.
-use Rattle.std.specs.Prelude.{◌≡◌, ◌⊎◌, ◌==◌, ◌||◌, ℕ, nat_lt, if◌then◌else◌, List, Option, Some, None, Result, IfOk, OnOk, OnErr}
+use Rattle.std.specs.Prelude.{◌≡◌, ◌≢◌, ◌⊎◌, ◌==◌, ◌||◌, ℕ, nat_lt, if◌then◌else◌, List, [], Option, Some, None, Result, IfOk, OnOk, OnErr}
 use Rattle.uicc_types.specs.Counts.{raised, raised_by}
 use Rattle.uicc_types.specs.declared.answers.Answer.{Answer}
 use Rattle.uicc_types.specs.declared.answers.TheConstants.StatusWord.{SECURITY_NOT_SATISFIED}
@@ -38,9 +38,11 @@ pub record ReadsFile (result : Tried) (access before now : ℕ) : Type 0 where
   pub refused : IfOk result (λ tried. OnErr tried (now ≡ raised_by access before))
   pub stopped : OnErr result ((now ≡ raised_by access before) ⊎ (now ≡ raised (raised_by access before)))
 
--- The same, as the answer of the command shows it.
+-- The same, as far as the answer of the command shows it.
 pub record ReadsOnce {X E : Type 0} (result : Result X E) (answer : Answer) (access before now : ℕ) : Type 0 where
-  -- where access isn't granted, nothing of the file is read
+  -- where access isn't granted, the reads are those that tell it, and no other
   pub denied : OnOk result (answer.status ≡ SECURITY_NOT_SATISFIED → now ≡ raised_by access before)
-  -- and never more than one read is, also where a fault stops the command
+  -- where data are answered, there is just one more
+  pub served : answer.body ≢ [] → now ≡ raised (raised_by access before)
+  -- and there is never more than one more, also where a fault stops the command
   pub most : (now ≡ raised_by access before) ⊎ (now ≡ raised (raised_by access before))

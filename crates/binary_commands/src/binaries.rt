@@ -204,7 +204,8 @@ fn try_update<S: Store>(
 }
 
 /// READ BINARY (11.1.3): answers bytes of a transparent EF. The bytes of the memory stay as they are, and after a fault the
-/// answer is empty. The file is read once, after access was granted; before that the record that rules it may be.
+/// answer is empty. Beside the reads that tell whether access is granted the store is asked for just one where data are answered,
+/// for none where access isn't granted, and else for one at most.
 pub fn read_binary<S: Store>(
     store: &mut S,
     loaded: &mut Loaded,

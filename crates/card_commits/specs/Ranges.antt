@@ -19,7 +19,7 @@ pub record IsAmongFiles (place count : ℕ) : Type 0 where
 
 -- ---- what a call does to the store
 
--- After Ok no recovery is due. Whether it tells its bytes, its size and its mark stay, it isn't recovered, and each fault has its cause.
+-- After Ok no recovery is due. Whether it tells its bytes, its size and its mark stay, no recovery is asked for, and each fault has its cause.
 pub record KeepsStore {S T : Type 0} (words : StoreWords S) (old new : S) (result : Result T StoreFault) : Type 0 where
   pub told : is_some (words.stable new) ≡ is_some (words.stable old)
   pub ready : OnOk result (words.recovered new ≡ true)

@@ -1,5 +1,5 @@
 -- What an opening and a restart owe, from what a mount read.
-use Rattle.std.proofs.Common.{◌≡◌, ℕ, Bool, true, false, List, Option, None, Result, Ok, Err, option_map, refl, sym, ◌∙◌, ap, subst, inl, All, IfErr, IfSome, IsErrAnd, IsOkAnd, if◌then◌else◌}
+use Rattle.std.proofs.Common.{◌≡◌, ◌≢◌, ℕ, Bool, true, false, List, Option, None, Result, Ok, Err, option_map, refl, sym, ◌∙◌, ap, subst, inl, All, IfErr, IfSome, IsErrAnd, IsOkAnd, if◌then◌else◌}
 use Rattle.std.proofs.lemmas.List.Elements.{All-contains}
 use Rattle.uicc_types.specs.Counts.{raised}
 use Rattle.store_form.specs.declared.store.StoreFault.{StoreFault}
@@ -20,8 +20,9 @@ use Rattle.card_model.specs.States.{HasBox}
 use Rattle.card_core.specs.Boxes.{IsFirstWithoutBox}
 use Rattle.card_core.specs.OpeningFaults.{of_mount, of_store}
 use Rattle.card_core.specs.Migrations.{awaits_migration, migrated_table}
-use Rattle.card_core.specs.Starts.{IsOpenedFrom, Opens, HasNoBoxFor, Finds, FaultLeaves, IsLeftMigrated, Refuses, MayRestart, IsWithBoxes, IsReadAgain, RestartsMemory}
+use Rattle.card_core.specs.Starts.{IsOpenedFrom, Opens, HasNoBoxFor, Finds, FaultLeaves, IsLeftMigrated, Refuses, MayRestart, IsWithBoxes, IsReadAgain, RestartsMemory, recoveries_after}
 use Rattle.card_core.specs.declared.opening_faults.OpenFault.{OpenFault}
+use Rattle.card_core.specs.declared.opening_faults.OpenFault.TheVariants as opening
 use Rattle.card_core.proofs.CountsMigrationLemmas.{counts_moved}
 use Rattle.card_core.proofs.HoldsCardLemmas.{either_state, card_moved, finds_no_card}
 
@@ -171,6 +172,17 @@ pub recovery_answered : {T : Type 0} (result : Result T OpenFault) (old now : Me
     → now.commits ≡ old.commits → IfErr result (Refuses old now boxes)
 recovery_answered (Ok done) old now boxes fault is told commits = tt
 recovery_answered (Err opening) old now boxes fault is told commits = recovery_refused opening old now boxes fault is told commits
+
+-- ---- the recoveries
+
+-- where there was memory one was asked for
+pub one_asked : {X : Type 0} (result : Result X OpenFault) (before : ℕ) → result ≢ Err opening.Memory → raised before ≡ recoveries_after result before
+one_asked (Ok done) before other = refl
+one_asked (Err (opening.NotACard at)) before other = refl
+one_asked (Err (opening.NoBox shelf)) before other = refl
+one_asked (Err opening.Failed) before other = refl
+one_asked (Err opening.PowerLost) before other = refl
+one_asked (Err opening.Memory) before other = absurd (other refl)
 
 -- ---- after a recovery, in which mark, bytes, commits and table stay
 

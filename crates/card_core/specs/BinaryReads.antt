@@ -15,8 +15,8 @@ use Rattle.card_model.specs.declared.instructions.Instruction.TheVariants.{File}
 use Rattle.card_core.specs.AnyStore.{command_named}
 use Rattle.card_core.specs.Parts.{CardParts}
 
--- Of the file that the command names, where the table refuses nothing: what tells whether access is granted is read, and the file once
--- after that, or not at all.
+-- Of the file that the command names, where the table refuses nothing: beside the reads that tell whether access is granted there is
+-- just one where data are answered, none where access isn't granted, and else one at most.
 abbrev pub ReadsFileOnce : {X E : Type 0} → Result X E → CardParts → CardParts → Apdu → Answer → Type 0
 ReadsFileOnce result old new apdu out =
     (file : Descriptor) → binary_to_read (descriptors_of old.table) (unwrap_or (selected_on old.channels (channel_of apdu.class)) AT_START) apdu ≡ Ok file

@@ -33,7 +33,7 @@ with_migration table result before = if awaits_migration table then with_commit 
 
 -- ---- the steps of a migration
 
--- After Ok no recovery is due. Whether it tells its bytes, its size and its mark stay, it isn't recovered, and each fault has its cause.
+-- After Ok no recovery is due. Whether it tells its bytes, its size and its mark stay, no recovery is asked for, and each fault has its cause.
 pub record KeepsMigrating {T : Type 0} (old new : Memory) (result : Result T StoreFault) : Type 0 where
   pub ready : OnOk result (new.recovered ≡ true)
   pub told : is_some new.told ≡ is_some old.told

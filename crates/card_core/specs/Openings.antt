@@ -1,6 +1,6 @@
 -- The card that is opened.
 use Rattle.std.specs.Prelude.{◌≡◌, ◌++◌, ◌-◌, true, false, List, length, replicate, Option, None, is_some, option_map}
-use Rattle.uicc_types.specs.Counts.{Caused}
+use Rattle.uicc_types.specs.Counts.{Caused, raised}
 use Rattle.card_state.specs.Memory.{Memory, held}
 use Rattle.card_state.specs.Migration.{migrated}
 use Rattle.card_state.specs.Persistent.{Persistent}
@@ -32,3 +32,5 @@ pub record IsOpened (old : Memory) (boxes : List (Option AppletState)) (card : C
   pub told : is_some card.told ≡ is_some old.told
   pub mark : card.store_mark ≡ old.mark
   pub calm : Caused old.meter card.meter ⊥ ⊥
+  -- just one recovery was asked for
+  pub recoveries : card.recoveries ≡ raised old.recoveries

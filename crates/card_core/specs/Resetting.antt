@@ -26,7 +26,7 @@ pub record Rests {X : Type 0} (result : Result X StoreFault) (old new : CardPart
   -- each fault was counted, and there was no other
   pub cause : HasCause old.meter new.meter result
 
--- A card that is started again, by a reset or behind a fault, asks for one recovery, however that ends. After Ok the store was read.
+-- A card that is started again, by a reset or after a fault, asks for one recovery, however that ends. After Ok the store was read.
 pub record StartsAgain {X E : Type 0} (result : Result X E) (old new : CardParts) : Type 0 where
   pub recovered : new.recoveries ≡ raised old.recoveries
   pub read : OnOk result (Rose old.reads new.reads)

@@ -1,5 +1,5 @@
 -- How a card is opened, what is found and left where it is refused, and how it is started again.
-use Rattle.std.specs.Prelude.{◌≡◌, ◌⊎◌, ℕ, false, if◌then◌else◌, List, All, Option, Some, None, is_some, option_map, IfSome, IsOkAnd}
+use Rattle.std.specs.Prelude.{◌≡◌, ◌⊎◌, ℕ, false, if◌then◌else◌, List, All, Option, Some, None, is_some, option_map, IfSome, Result, Ok, Err, IsOkAnd}
 use Rattle.uicc_types.specs.Counts.{Caused, raised}
 use Rattle.card_state.specs.declared.entries.Loaded.{Loaded}
 use Rattle.card_state.specs.Decoding.{table_of}
@@ -85,6 +85,21 @@ pub record Refuses (old new : Memory) (boxes : List (Option AppletState)) (fault
   pub found : Finds fault old.mark old.told boxes
   pub left : FaultLeaves fault old.mark old.told new.told
   pub commits : new.commits ≡ old.commits
+
+-- ---- the recoveries of an opening
+
+-- the count after a refusal for this cause, which was so before: one was asked for, but none where there was no memory for the card
+abbrev pub recoveries_at : OpenFault → ℕ → ℕ
+recoveries_at (NotACard at) before = raised before
+recoveries_at (NoBox shelf) before = raised before
+recoveries_at Failed before = raised before
+recoveries_at PowerLost before = raised before
+recoveries_at NoMemory before = before
+
+-- the same of an opening that ended so: one that is done asked for one
+abbrev pub recoveries_after : {X : Type 0} → Result X OpenFault → ℕ → ℕ
+recoveries_after (Ok done) before = raised before
+recoveries_after (Err fault) before = recoveries_at fault before
 
 -- ---- a card that is started again
 

@@ -1,5 +1,6 @@
 //! The opening of a card.
-ghost use Rattle.std.specs.Prelude.{◌≡◌, [], ◌∷◌, ◌++◌, ◌≤◌, true, length, take, replicate, None, OnOk, OnErr, IfOk, IfErr, IsErrOf};
+ghost use Rattle.std.specs.Prelude.{◌≡◌, ◌≢◌, [], ◌∷◌, ◌++◌, ◌≤◌, true, length, take, replicate, None, Err, OnOk, OnErr, IfOk, IfErr, IsErrOf};
+ghost use Rattle.uicc_types.specs.Counts.{raised};
 ghost use Rattle.card_state.specs.declared.sizes.TheConstants.{ROW_COUNT};
 ghost use Rattle.card_state.specs.Memory.{memory};
 ghost use Rattle.card_state.specs.Places.{memory_size};
@@ -7,7 +8,7 @@ ghost use Rattle.card_state.specs.States.{rows_of};
 ghost use Rattle.layout_mount.specs.Mounted.{unread};
 ghost use Rattle.applet_trait.specs.Minds.{minds_of};
 ghost use Rattle.toolkit_model.specs.Commands.{woken_boxes};
-ghost use Rattle.card_core.specs.Starts.{Opens, Refuses, IsKept};
+ghost use Rattle.card_core.specs.Starts.{Opens, Refuses, IsKept, recoveries_at, recoveries_after};
 ghost use Rattle.card_core.specs.Openings.{with_all_shelves};
 
 use crate::box_waking::wake_boxes;
@@ -72,6 +73,8 @@ fn start_and_wake<S: Store, B: Applet>(
         (minds_of B.mind boxes.old)) }
     ensures keeps { IsKept (unread S.Store store.old) (unread S.Store store.new)
         (IsErrOf result OpenFault.Failed) (IsErrOf result OpenFault.PowerLost) }
+    ensures recovers { S.recoveries store.new ≡ raised (S.recoveries store.old) }
+    ensures no_memory { result ≢ Err OpenFault.Memory }
 {
     match start(store, loaded, boxes) {
         Ok(()) => {
@@ -100,6 +103,7 @@ fn begin<S: Store, B: Applet>(
         (with_all_shelves (minds_of B.mind boxes.old.items))) }
     ensures keeps { IsKept (unread S.Store store.old) (unread S.Store store.new)
         (IsErrOf result OpenFault.Failed) (IsErrOf result OpenFault.PowerLost) }
+    ensures recovers { S.recoveries store.new ≡ recoveries_after result (S.recoveries store.old) }
 {
     let missing = ROW_COUNT - boxes.as_slice().len();
     match add_shelves(boxes, missing) {
@@ -115,7 +119,7 @@ impl<S: Store, B: Applet> CardOver<S, B> {
     /// Opens the card that the store holds, with these boxes on the shelves from 0 on; a shelf behind the last of them is empty. The
     /// store is recovered and mounted, each registered applet's box is tested, then a card of version 1 of the layout is migrated,
     /// where its files leave room for that, and at last the registered applets are woken. All the memory that the card needs is
-    /// taken first.
+    /// taken first. However it ends, just one recovery of the store is asked for, but none before a `Memory`.
     ///
     /// A refusal hands the store and the boxes back. Before a `NotACard`, `NoBox` or `Memory` nothing is written; after `Failed` or
     /// `PowerLost` a card may be the migrated one.
@@ -132,6 +136,8 @@ impl<S: Store, B: Applet> CardOver<S, B> {
             (with_all_shelves (minds_of B.mind cast.items)) refused.0) }
         ensures keeps { IfErr result (λ refused. IsKept (unread S.Store store) (unread S.Store refused.1)
             (refused.0 ≡ OpenFault.Failed) (refused.0 ≡ OpenFault.PowerLost)) }
+        ensures recovers { IfErr result (λ refused. S.recoveries refused.1
+            ≡ recoveries_at refused.0 (S.recoveries store)) }
         ensures boxes { IfErr result (λ refused. refused.2.items ≡ cast.items) }
     {
         // These calls are laws, and do nothing.

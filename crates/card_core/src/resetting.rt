@@ -105,8 +105,8 @@ impl<S: Store, B: Applet> CardOver<S, B> {
     }
 
     /// Powers the device up, and makes the card what it is after a reset: what it holds for good is the same, and the rest begins
-    /// anew. The store is recovered once, and read after that. After `Failed` what is left of that comes first in the next command, if
-    /// there was power before; after `PowerLost` there is no power.
+    /// anew. However it ends, just one recovery of the store is asked for, and after Ok it was read at least once. After `Failed` what
+    /// is left of that comes first in the next command, if there was power before; after `PowerLost` there is no power.
     pub fn reset(&mut self) -> Result<(), ResetFault>
         requires ready { IsCardReady (parts_of S.Store B.Applet self.old) }
         ensures restarted { card_of (parts_of S.Store B.Applet self.new)

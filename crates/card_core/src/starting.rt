@@ -1,5 +1,6 @@
 //! The start of a card at its opening.
 ghost use Rattle.std.specs.Prelude.{◌≡◌, ◌≢◌, true, length, OnOk, IfErr, IsErrOf, Err};
+ghost use Rattle.uicc_types.specs.Counts.{raised};
 ghost use Rattle.card_state.specs.declared.sizes.TheConstants.{ROW_COUNT};
 ghost use Rattle.card_state.specs.Memory.{memory};
 ghost use Rattle.card_state.specs.Places.{memory_size};
@@ -33,6 +34,7 @@ fn test_and_migrate<S: Store, B: Applet>(
     ensures no_memory { result ≢ Err OpenFault.Memory }
     ensures keeps { IsKept (unread S.Store store.old) (unread S.Store store.new)
         (IsErrOf result OpenFault.Failed) (IsErrOf result OpenFault.PowerLost) }
+    ensures recovers { S.recoveries store.new ≡ S.recoveries store.old }
 {
     // These three calls are laws, and do nothing.
     cards_are_known();
@@ -49,7 +51,7 @@ fn test_and_migrate<S: Store, B: Applet>(
 
 /// Recovers the store, mounts what it holds, tests that the applet of each row has its box, and then migrates a card of version 1
 /// of the layout, where its files leave room for that. It takes no memory and wakes no box. Each box was asked for its kind, so
-/// that an opened card has applets of known kinds alone.
+/// that an opened card has applets of known kinds alone. However it ends, just one recovery is asked for.
 pub fn start<S: Store, B: Applet>(
     store: &mut S,
     loaded: &mut Loaded,
@@ -65,6 +67,7 @@ pub fn start<S: Store, B: Applet>(
     ensures no_memory { result ≢ Err OpenFault.Memory }
     ensures keeps { IsKept (unread S.Store store.old) (unread S.Store store.new)
         (IsErrOf result OpenFault.Failed) (IsErrOf result OpenFault.PowerLost) }
+    ensures recovers { S.recoveries store.new ≡ raised (S.recoveries store.old) }
 {
     store.recover()?;
     match mount(store, loaded) {

@@ -131,13 +131,14 @@ refusals_of_select state seen selection apdu =
     ∷ (is_none (chosen (descriptors_in state) selection apdu), FILE_NOT_FOUND)
     ∷ []
 
+-- on a good card
 abbrev pub refusals_of_status : Persistent → Verified → Selection → Apdu → List Refusal
 refusals_of_status state seen selection apdu =
     (not (has_status_parameters apdu), WRONG_PARAMETERS)
     ∷ (not (has_no_data apdu), WRONG_LENGTH)
     ∷ []
 
--- What STATUS is refused for beside that where the current DF isn't there, which is so on no good card.
+-- Beside these STATUS is refused where the current DF isn't there, which is so on no good card.
 abbrev pub without_current_df : Persistent → Selection → List Refusal
 without_current_df state selection = (is_none (file_found (descriptors_in state) (Number selection.df)), FILE_NOT_FOUND) ∷ []
 

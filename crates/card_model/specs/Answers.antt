@@ -65,7 +65,7 @@ on_pins card outcome = record {
   commits = map (with_pins card.persistent) outcome.passed;
 }
 
--- MANAGE CHANNEL says what each channel has selected then, and commits nothing
+-- after MANAGE CHANNEL each channel has selected what the outcome says; nothing is committed
 abbrev pub on_channels : CardState → ChannelOutcome → Answered
 on_channels card outcome = record {
   body = outcome.body;
@@ -74,7 +74,7 @@ on_channels card outcome = record {
   commits = [];
 }
 
--- a command that makes, deletes or resizes a file says what each channel has selected then
+-- after a command that makes, deletes or resizes a file each channel has selected what the outcome says
 abbrev pub on_trees : CardState → TreeOutcome → Answered
 on_trees card outcome = record {
   body = [];

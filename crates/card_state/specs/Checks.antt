@@ -64,7 +64,7 @@ has_short_parts wide bytes = nat_le (slice_index bytes 7) TEXT_LIMIT && nat_le (
 abbrev pub has_sequence_of : Row → Row → Bool
 has_sequence_of row other = other.used && other.sequence == row.sequence
 
--- none of these rows has the sequence number of this one
+-- none of these rows that is used has the sequence number of this one
 abbrev pub has_own_sequence : List Row → Row → Bool
 has_own_sequence earlier row = not (list_any (has_sequence_of row) earlier)
 
@@ -85,7 +85,7 @@ is_registration wide next earlier bytes row =
 abbrev pub is_row : Bool → ℕ → List Row → List ℕ → Row → Bool
 is_row wide next earlier bytes row = is_flag (slice_index bytes 0) && (not row.used || is_registration wide next earlier bytes row)
 
--- the MF: a DF that is there, with the identifier 3F00 (ETSI TS 102 221, 8.6), which lies in number 0, itself
+-- the MF: a DF that is there, with the identifier 3F00 (ETSI TS 102 221, 8.6), whose parent is number 0, itself
 abbrev pub is_mf : Node → Bool
 is_mf node = node.used && node.kind == df_kind && node.id.0 == mf_id && node.parent == 0
 

@@ -61,7 +61,7 @@ known_codes = map (λ event. event.0) event_codes
 abbrev pub codes_of : ℕ → List ℕ
 codes_of bits = map (λ event. event.0) (filter (λ event. bit_at bits event.1 == 1) event_codes)
 
--- the bit of call control: 11
+-- bit 11 of a row's events says that its applet is registered for call control
 abbrev pub call_control_bit : ℕ
 call_control_bit = 11
 

@@ -52,7 +52,7 @@ pub record IsMounted (memory : Memory) : Type 0 where
 
 -- ---- what a call does to it
 
--- After Ok it is mounted. Whether it tells its bytes, its size and its mark stay, it isn't recovered, and each fault has its cause.
+-- After Ok it is mounted. Whether it tells its bytes, its size and its mark stay, no recovery is asked for, and each fault has its cause.
 pub record Keeps {T : Type 0} (old new : Memory) (result : Result T StoreFault) : Type 0 where
   pub mounted : OnOk result (IsMounted new)
   pub told : is_some new.told ≡ is_some old.told

@@ -234,7 +234,8 @@ df_added state path =
     let added = with_file state (new_df state df (id_for path)) in
     if_good (is_new_path state.files path) (files_fit added) added)
 
--- the state after `ef PATH ..`: the path has to be new, the EF has to be one that may be, and it has to fit with its bytes
+-- the state after `ef PATH ..`: the path has to be new and to lead to a DF, the EF's structure, its rule and its short identifier, new in that DF, have
+-- to be such as may be, and it has to fit with its bytes
 abbrev pub ef_added : Persistent → List FileId → Shape → Option ℕ → Option Rule → Result Persistent SectionFault
 ef_added state path shape short rule =
     if_df (df_for state.files path) (λ df.

@@ -81,7 +81,7 @@ is_users_key key = key == PIN_1 || key == PIN_2
 abbrev pub is_pin_key : ℕ → Bool
 is_pin_key key = is_users_key key || key == ADM_1
 
--- P1, the length of the data, the key
+-- what all five commands are refused for first: P1 and P2, the length of the data, a key that they don't take, and a PIN that isn't there
 abbrev pub pin_addressed : List Pin → Apdu → Bool → Bool → (Pin → Result PinOutcome StatusWord) → Result PinOutcome StatusWord
 pin_addressed pins apdu is_length is_key next =
     needs (has_pin_parameters apdu) WRONG_PARAMETERS (
@@ -94,6 +94,9 @@ abbrev pub is_blocked : Pin → Bool
 is_blocked pin = pin.tries == 0
 
 -- ---- the commands
+
+-- Each of the five is refused first for what `pin_addressed` looks at: P1 and P2 (6A86), the length (6700), the key, and a PIN that isn't there (6A88);
+-- a wrong value is answered 63CX.
 
 -- VERIFY PIN: what it comes to. Eight bytes are presented, and a right value sets the key's mark; without data it asks how many tries are left. It is
 -- refused for a blocked PIN (6983), and with data for a disabled one (6984).

@@ -61,7 +61,7 @@ telling state selection apdu df = record {
   passed = [];
 }
 
--- STATUS: what it comes to; it is refused for P1 and P2 (6A86) and with data (6700)
+-- STATUS: what it comes to; it is refused for P1 and P2 (6A86), with data (6700), and where the current DF isn't there (6A82), as on no good card
 unfoldable pub status_told : Persistent → Selection → Apdu → Result FileOutcome StatusWord
 status_told state selection apdu =
     needs (has_status_parameters apdu) WRONG_PARAMETERS (

@@ -37,8 +37,8 @@ pub fn find(nodes: &Loaded, selection: &Selection, id: FileId) -> Result<u8, Not
     number_of(chosen_by_identifier(nodes, selection.df, id))
 }
 
-/// The number of the file at a path, two bytes for each identifier, from the DF `from` on. `NotFound` exactly where an
-/// identifier names no file in the DF before it, or one but the last no DF.
+/// The number of the file at a path, two bytes for each identifier, from the DF `from` on; an empty path names `from`.
+/// `NotFound` exactly where an identifier names no file in the DF before it, or one but the last no DF.
 pub fn by_path(nodes: &Loaded, from: u8, path: &[u8]) -> Result<u8, NotFound>
     requires table { IsCardTable nodes.now }
     requires even { length path.now % 2 ≡ 0 }

@@ -225,12 +225,12 @@ abbrev pub is_reset : HandsetLine → Bool
 is_reset Reset = true
 is_reset _ = false
 
--- after a failure a handset does nothing for a line, but for a reset
+-- while it is silent a handset does nothing for a line, but for a reset
 abbrev pub said_at : Bool → HandsetLine → Known → Duty
 said_at true line known = if is_reset line then ResetCard else Rest
 said_at false line known = said line known
 
--- after a failure no answer asks for anything
+-- while the handset is silent no answer asks for anything
 abbrev pub answered_at : Bool → Answer → Known → Duty
 answered_at true answer known = Rest
 answered_at false answer known = answered known.last_sent answer known

@@ -43,7 +43,7 @@ pub record FindsNoCard (old new : Memory) (at : ℕ) : Type 0 where
   pub ready : new.recovered ≡ true
   pub no_card : HoldsNoCard old.mark old.told at
 
--- It is read at least once, and not recovered. Its bytes, its commits, its size and its mark stay, and each fault has its cause.
+-- It is read at least once, and no recovery is asked for. Its bytes, its commits, its size and its mark stay, and each fault has its cause.
 pub record OnlyReads (old new : Memory) (IsFailed IsLost : Type 0) : Type 0 where
   pub stable : new.told ≡ old.told
   pub commits : new.commits ≡ old.commits

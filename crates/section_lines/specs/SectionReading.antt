@@ -43,7 +43,7 @@ pub record AtStart (cast : List (Option AppletState)) (first : Option Persistent
   pub follows : Follows text given script left
   pub reach : IsTakenForLast text given left
 
--- the line is not `start`, and may not stand here
+-- the line is not `start`, and may not stand here, or breaks what the lines before it ask for (an identifier twice, more bytes than the file has)
 abbrev pub IsOutOfPlace : List (Option AppletState) → Option Persistent → ScriptLine → Type 0
 IsOutOfPlace cast card line = (line ≡ Start → ⊥) × (with_line cast card line ≡ Err Bad)
 

@@ -1,5 +1,5 @@
 -- What a call of a store keeps, and what it writes. The words of the store are given: how many bytes it has, its mark, the bytes that
--- it holds for good, where it tells them, and how many commits it counted.
+-- it holds for good, where it tells them, and how many commits, reads and recoveries it counted.
 use Rattle.std.specs.Prelude.{◌≡◌, ◌⊎◌, ℕ, List, length, Option, option_map, is_some, Result, OnOk, OnErr}
 use Rattle.list_laws.specs.Patches.{patched, Torn}
 use Rattle.uicc_types.specs.Counts.{raised_by}

@@ -13,17 +13,17 @@ abbrev pub ◌>>=◌ : {A B : Type 0} → Result A ProactiveFault → (A → Res
 (Ok x) >>= f = f x
 (Err e) >>= f = Err e
 
--- a value of one byte
+-- a value of one byte; of another length it is wrong
 abbrev pub one_byte : List ℕ → Result ℕ ProactiveFault
 one_byte (n ∷ []) = Ok n
 one_byte _ = Err BadData
 
--- a value of two bytes
+-- a value of two bytes; of another length it is wrong
 abbrev pub two_bytes : List ℕ → Result (ℕ × ℕ) ProactiveFault
 two_bytes (m ∷ n ∷ []) = Ok (m, n)
 two_bytes _ = Err BadData
 
--- a value of three bytes
+-- a value of three bytes; of another length it is wrong
 abbrev pub three_bytes : List ℕ → Result (ℕ × ℕ × ℕ) ProactiveFault
 three_bytes (m ∷ n ∷ k ∷ []) = Ok (m, n, k)
 three_bytes _ = Err BadData

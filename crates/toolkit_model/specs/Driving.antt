@@ -59,7 +59,7 @@ given_one code body shelf state =
 
 -- ---- late triggers
 
--- what was found, with this trigger before the others
+-- the trigger that was found, and the others with this one first
 abbrev pub behind : LateTrigger → LateTrigger × List LateTrigger → LateTrigger × List LateTrigger
 behind trigger found = (found.0, trigger ∷ found.1)
 

@@ -217,7 +217,7 @@ ended_in shelf is_resumed state ran = record {
   log = ran.log;
 }
 
--- the run of this mind, of at most 32 acts; without one nothing changes
+-- the run of this mind, of at most 32 acts; without a mind nothing changes
 abbrev pub run_of_mind : ℕ → Stimulus → Bool → ToolkitState → Option AppletState → Passed
 run_of_mind shelf stimulus is_resumed state None = unmoved state
 run_of_mind shelf stimulus is_resumed state (Some mind) =

@@ -70,7 +70,7 @@ pub record StandardNumbers : Type 0 where
   -- command qualifiers (ETSI TS 102 223, 8.6)
   pub qualifiers : qualifier.NONE ∷ qualifier.CARD_RESET ∷ qualifier.UNTIL_CLEARED ∷ qualifier.DIGITS ∷ qualifier.CHARACTERS ∷ qualifier.LOCATION ∷ qualifier.START ∷ qualifier.DEACTIVATE ∷ qualifier.GET_VALUE ∷ qualifier.EIGHT_BITS ∷ qualifier.IN_SECONDS ∷ []
       ≡ 0x00 ∷ 0x04 ∷ 0x80 ∷ 0x00 ∷ 0x01 ∷ 0x00 ∷ 0x00 ∷ 0x01 ∷ 0x02 ∷ 0x04 ∷ 0x01 ∷ []
-  -- commands, objects, bearers and results of the bearer independent protocol (ETSI TS 102 223, 9.4, 8.52 to 8.56, 8.12.10)
+  -- commands, objects, bearers and results of the bearer independent protocol (ETSI TS 102 223, 9.4, 8.52 to 8.56, 8.12.11)
   pub channel_codes : channel.OPEN_CHANNEL ∷ channel.CLOSE_CHANNEL ∷ channel.RECEIVE_DATA ∷ channel.SEND_DATA ∷ channel.GET_CHANNEL_STATUS ∷ channel.AT_ONCE ∷ channel.SEND_NOW ∷ channel.BEARER_DESCRIPTION ∷ channel.CHANNEL_DATA ∷ channel.CHANNEL_DATA_LENGTH ∷ channel.CHANNEL_STATUS ∷ channel.BUFFER_SIZE ∷ channel.DEFAULT_BEARER ∷ channel.CHANNEL_DEVICES ∷ channel.MISSING_INFORMATION ∷ channel.PROTOCOL_ERROR ∷ channel.NONE_AVAILABLE ∷ channel.CHANNEL_CLOSED ∷ channel.NOT_VALID ∷ channel.SIZE_NOT_AVAILABLE ∷ channel.LINK_UP ∷ channel.NOTHING_MORE ∷ channel.LINK_DROPPED ∷ []
       ≡ 0x40 ∷ 0x41 ∷ 0x42 ∷ 0x43 ∷ 0x44 ∷ 0x01 ∷ 0x01 ∷ 0x35 ∷ 0x36 ∷ 0x37 ∷ 0x38 ∷ 0x39 ∷ 0x03 ∷ 0x20 ∷ 0x02 ∷ 0x3A ∷ 0x01 ∷ 0x02 ∷ 0x03 ∷ 0x04 ∷ 0x80 ∷ 0x00 ∷ 0x05 ∷ []
   -- commands that have data to fetch over T=0 (ISO 7816-4, 5.1.2)

@@ -19,6 +19,12 @@ returns-in-Ok-clause-opens g c =
     (c.mount.ensures.reads.mark ∙ c.recover.ensures.keeps.mark) (c.mount.ensures.reads.stable ∙ c.recover.ensures.keeps.stable) (c.mount.ensures.reads.commits ∙ c.recover.ensures.keeps.commits))
     c.test_and_migrate.ensures.opens
 
+pub returns-in-Ok-clause-recovers : goal.returns-in-Ok-clause-recovers
+returns-in-Ok-clause-recovers g c = c.test_and_migrate.ensures.recovers ∙ c.mount.ensures.reads.recoveries ∙ c.recover.ensures.asked.recoveries
+
+pub returns-in-Err-clause-recovers : goal.returns-in-Err-clause-recovers
+returns-in-Err-clause-recovers g c = c.mount.ensures.reads.recoveries ∙ c.recover.ensures.asked.recoveries
+
 pub returns-in-Ok-clause-refuses : goal.returns-in-Ok-clause-refuses
 returns-in-Ok-clause-refuses g c =
     IfErr-weaker c.test_and_migrate.result

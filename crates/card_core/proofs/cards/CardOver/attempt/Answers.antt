@@ -12,7 +12,7 @@ use Rattle.file_model.specs.declared.selections.TheConstants.Selection.{AT_START
 use Rattle.binary_commands.specs.Reads.{access_reads}
 use Rattle.card_core.specs.Acting.{in_bytes}
 use Rattle.card_core.specs.Cards.{parts_of}
-use Rattle.card_core.proofs.ActsAsLemmas.{cut_acts, refused_acts}
+use Rattle.card_core.proofs.ActsAsLemmas.{cut_acts, cut_nothing, refused_acts}
 use Rattle.card_core.proofs.CommandNamedLemmas.{named_by, not_named}
 use Rattle.card_core.proofs.ReadsOnceLemmas.{told_on}
 use Rattle.card_core.proofs.cards.CardOver.attempt.Goals as goal
@@ -40,7 +40,7 @@ pub returns-in-Ok-take-clause-asks : goal.returns-in-Ok-take-clause-asks
 returns-in-Ok-take-clause-asks g c = λ apdu read named file found.
     let same : c.in-Ok.apdu ≡ apdu = same_Some c.in-Ok.apdu apdu (c.in-Ok.ensures.value ∙ read) in
     let files = descriptors_of c.args.self.now.loaded.value in
-    told_on {X = Unit} {E = StoreFault} (Ok tt) c.take.new.out c.cut.new.out (access_reads files file) (g.S.Store.reads c.args.self.now.store) (g.S.Store.reads c.take.new.self.store) (λ is. sym c.cut.ensures.status ∙ is)
+    told_on {X = Unit} {E = StoreFault} (Ok tt) c.take.new.out c.cut.new.out (access_reads files file) (g.S.Store.reads c.args.self.now.store) (g.S.Store.reads c.take.new.self.store) (λ is. sym c.cut.ensures.status ∙ is) (λ some none. some (c.cut.ensures.body ∙ ap (λ (each : Apdu). cut_to each.expected c.take.new.out.body) c.apdu.view_is ∙ ap (cut_to c.in-Ok.apdu.expected) none ∙ cut_nothing c.in-Ok.apdu.expected))
     (c.in-Ok-take.ensures.asks (named_by c.args.self.now.channels c.args.bytes.now c.in-Ok.apdu c.in-Ok.ensures.value ∙ named) file
     (subst (λ (each : Apdu). binary_to_read files (unwrap_or (selected_on c.args.self.now.channels (channel_of each.class)) AT_START) each ≡ Ok file) (sym same) found))
 

@@ -31,4 +31,4 @@ returns-in-Err-clause-answered g c =
 pub returns-in-Ok-clause-asks : goal.returns-in-Ok-clause-asks
 returns-in-Ok-clause-asks g c = λ apdu read named file found.
     told_on {X = Unit} {E = StoreFault} (Ok tt) c.attempt.new.out _ (access_reads (descriptors_of c.args.self.now.loaded.value) file) (g.S.Store.reads c.args.self.now.store) (g.S.Store.reads c.attempt.new.self.store)
-    (λ is. c.told_pending-out.ensures.denied (ap (λ (word : StatusWord). word.0) is)) (c.in-Ok.ensures.asks apdu read named file found)
+    (λ is. c.told_pending-out.ensures.denied (ap (λ (word : StatusWord). word.0) is)) (λ some. some) (c.in-Ok.ensures.asks apdu read named file found)

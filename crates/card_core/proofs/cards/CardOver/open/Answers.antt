@@ -50,4 +50,5 @@ returns-in-Ok-begin-clause-opened g c =
       told = c.begin.ensures.keeps.told;
       mark = c.begin.ensures.keeps.mark;
       calm = search rules;
+      recoveries = c.in-Ok-begin.ensures.recovers;
     }

@@ -160,7 +160,7 @@ returns-in-Err-clause-recovers g c = λ on.
 pub returns-in-Ok-clause-asks : goal.returns-in-Ok-clause-asks
 returns-in-Ok-clause-asks g c = λ on rests apdu read named file found.
     let once = c.in-Ok.ensures.asks rests apdu read named file found in
-    record { denied = once.denied; most = once.most }
+    record { denied = once.denied; served = once.served; most = once.most }
 
 pub returns-in-Err-clause-asks : goal.returns-in-Err-clause-asks
 returns-in-Err-clause-asks g c = λ on rests apdu read named file found.
@@ -170,5 +170,6 @@ returns-in-Err-clause-asks g c = λ on rests apdu read named file found.
       denied =
           on_ok_weaker c.fail.result (λ other is. other (λ failed. let both : 0x6982 ≡ 0x6581 = ap (λ (word : StatusWord). word.0) (sym is ∙ failed) in omega (arith, both)))
           (failed_first ((parts_of g.S.Store g.B.Applet c.fail.new.self).reads ≡ granted) c.in-Err.fault c.fail.result c.fail.new.out.status c.fail.ensures.failed c.fail.ensures.lost);
+      served = λ some. absurd (some (c.fail.ensures.data ∙ c.in-Err.ensures.answered.empty));
       most = subst (λ (now : ℕ). (now ≡ granted) ⊎ (now ≡ raised granted)) (sym (ap (λ card. (parts_of g.S.Store g.B.Applet card).reads) c.fail.ensures.others)) once.most;
     }
