@@ -19,7 +19,7 @@ object_joined bytes behind_tag behind_length value rest tag n size tagged measur
 pub object_not_empty : (tag : ℕ) (value rest : List ℕ) → [] ≡ object tag value ++ rest → ⊥
 object_not_empty tag value rest h = let same = h ∙ object-parts tag value rest in cc
 
--- bytes that are a value and a rest are split into them behind the length of the value
+-- bytes that are a value and a rest are split into them after the length of the value
 pub split_once : (bytes front back value rest : List ℕ) (n : ℕ)
     → IsSplitAt bytes n front back → n ≡ length value → bytes ≡ value ++ rest → (front ≡ value) × (back ≡ rest)
 split_once bytes front back value rest n split sized joined =

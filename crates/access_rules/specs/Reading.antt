@@ -11,7 +11,7 @@ use Rattle.access_rules.specs.declared.conditions.Needs.TheVariants.{One, Each}
 use Rattle.access_rules.specs.declared.rules.Op.{Op}
 use Rattle.access_rules.specs.declared.rules.Verified.{Verified}
 
--- the byte behind 81, from 128 on, and what follows it
+-- the byte after 81, from 128 on, and what follows it
 unfoldable pub long_length_in : List ℕ → Option (ℕ × List ℕ)
 long_length_in [] = None
 long_length_in (n ∷ rest) = if nat_le 128 n && nat_le n 255 then Some (n, rest) else None
@@ -36,7 +36,7 @@ unfoldable pub part_in : List ℕ → Option Part
 part_in [] = None
 part_in (tag ∷ bytes) = option_and_then (λ found. part_of tag found.0 found.1) (length_in bytes)
 
--- 'always' and 'never' have no value
+-- 'always' and 'never' have this truth, and no value
 unfoldable pub truth_of_nothing : Bool → List ℕ → Option Bool
 truth_of_nothing truth [] = Some truth
 truth_of_nothing truth (byte ∷ bytes) = None
@@ -47,7 +47,8 @@ key_truth seen (a ∷ (b ∷ (reference ∷ (c ∷ (d ∷ (e ∷ [])))))) =
     if a == 0x83 && (b == 0x01 && (c == 0x95 && (d == 0x01 && e == 0x08))) then Some (is_satisfied reference seen) else None
 key_truth seen _ = None
 
--- the truth of an object as a condition, where the truth of the groups in it is known
+-- the truth of an object as a condition, where the truth of the groups in it is known: always (90), never (97), the key of a control reference
+-- template (A4), one of a group (A0), each of a group (AF) (ISO 7816-4, 5.4.3.2)
 unfoldable pub part_truth : (Needs → List ℕ → Option Bool) → Verified → ℕ → List ℕ → Option Bool
 part_truth group seen tag value =
     if tag == 0x90 then truth_of_nothing true value
@@ -76,7 +77,7 @@ group_truth seen (suc levels) needs [] = None
 group_truth seen (suc levels) needs (byte ∷ bytes) =
     conditions_truth (condition_in (group_truth seen levels) seen) needs (length (byte ∷ bytes)) (byte ∷ bytes)
 
--- the access mode of an object
+-- the access mode of an object: an access mode byte (80), or an instruction byte (84) (ISO 7816-4, 5.4.3.2)
 unfoldable pub mode_of : ℕ → List ℕ → Option Mode
 mode_of tag [] = None
 mode_of tag (byte ∷ []) = if tag == 0x80 then Some (by_bits byte) else if tag == 0x84 then Some (by_instruction byte) else None
@@ -86,7 +87,8 @@ mode_of tag (byte ∷ (next ∷ bytes)) = None
 unfoldable pub named_truth : Op → Mode → Option (Bool × List ℕ) → Option (Bool × List ℕ)
 named_truth op mode found = option_map (λ condition. (names mode op && condition.0, condition.1)) found
 
--- whether the pair at the front grants the operation, and what follows it
+-- Whether the pair at the front grants the operation, and what follows it. That A0 and AF stand at most four levels deep is a bound of this
+-- card; the standard has none.
 unfoldable pub pair_in : Op → Verified → List ℕ → Option (Bool × List ℕ)
 pair_in op seen bytes =
     option_and_then

@@ -35,7 +35,7 @@ impl Needs {
     }
 }
 
-/// The condition at the front, with A0 and AF at most `levels` deep: whether it holds, and the bytes behind it.
+/// The condition at the front, with A0 and AF at most `levels` deep: whether it holds, and the bytes after it.
 #[cycle(conditions)]
 pub fn condition_at<'a>(bytes: &'a [u8], levels: u8, seen: &Verified) -> Option<(bool, &'a [u8])>
     ensures shorter { IfSome result (λ found. length found.1.now < length bytes.now) }

@@ -2,7 +2,7 @@
 ghost use Rattle.std.specs.Prelude.{◌≡◌, ℕ, ◌<◌, List, [], ◌∷◌, ◌++◌, length, MatchOption, IfSome, IsSomeAnd};
 ghost use Rattle.access_rules.specs.Objects.{length_bytes, object};
 
-/// An object at the front of some bytes, and the bytes behind it.
+/// An object at the front of some bytes, and the bytes after it.
 #[derive(Clone, Copy)]
 pub struct Object<'a> {
     pub tag: u8,
@@ -36,7 +36,7 @@ fn length_at(bytes: &[u8]) -> Option<(u8, &[u8])>
     }
 }
 
-/// The byte behind `81`, which is 128 at least.
+/// The byte after `81`, which is 128 at least.
 fn long_length_at(bytes: &[u8]) -> Option<(u8, &[u8])>
     ensures found { IfSome result (λ found. (127 < found.0) × (bytes.now ≡ found.0 ∷ found.1.now)) }
     ensures only { (n : ℕ) (rest : List ℕ) → 127 < n → bytes.now ≡ n ∷ rest

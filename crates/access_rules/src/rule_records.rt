@@ -12,7 +12,7 @@ use crate::rules::{Op, Verified};
 /// How deep A0 and AF may be nested.
 const LEVELS: u8 = 4;
 
-/// What stands in a record behind its last pair.
+/// What stands in a record after its last pair.
 const FILLING: u8 = 0xFF;
 
 /// Whether the rule `rule`, a record of an EF_ARR, allows `op` where the keys' conditions are as in `seen`. A record of
@@ -41,7 +41,7 @@ fn granted(rule: &[u8], op: Op, seen: &Verified) -> Option<bool>
     Some(truth)
 }
 
-/// The pair at the front: whether it grants the operation, and the bytes behind it.
+/// The pair at the front: whether it grants the operation, and the bytes after it.
 fn pair_at<'a>(bytes: &'a [u8], op: Op, seen: &Verified) -> Option<(bool, &'a [u8])>
     ensures shorter { IfSome result (λ found. length found.1.now < length bytes.now) }
     ensures found { IfSome result (λ found. (pair : Pair) × IsProper pair.condition 4
