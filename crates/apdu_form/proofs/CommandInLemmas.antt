@@ -17,7 +17,7 @@ le_by le false low is = let some : le ≢ 0 = eqb-false le 0 is in (mod-eq_of_lt
 le_spelled : (le : ℕ) → le < 256 → (ne_of le % 256 ≡ le) × (1 ≤ ne_of le) × (ne_of le ≤ 256)
 le_spelled le low = le_by le (le == 0) low refl
 
--- ---- behind Lc
+-- ---- after Lc
 
 -- data alone
 alone : (lc : ℕ) (rest : List ℕ) → lc < 256 → 1 ≤ lc → length rest ≡ lc → IsFields (lc ∷ rest) rest None
@@ -64,7 +64,7 @@ data_is lc rest bytes low some = by_first (length rest == lc) refl where
   by_first true is = alone lc rest low some (eqb-true (length rest) lc is)
   by_first false is = by_second (length rest == lc + 1) refl
 
--- ---- behind the header
+-- ---- after the header
 
 fields_are : (fields : List ℕ) → AreBytes fields → IfSome (fields_in fields) (λ field. IsFields fields field.0 field.1)
 unfolding fields_in

@@ -3,7 +3,7 @@ use Rattle.std.proofs.Common.{◌≡◌, ℕ, ◌+◌, ◌<◌, List, [], ◌∷
 use Rattle.std.proofs.lemmas.Grind.{common_steps}
 use Rattle.apdu_form.specs.Model.{data_field, le_field}
 
--- behind Lc stand Lc bytes, or one more
+-- after Lc stand Lc bytes, or one more
 pub not_spelled : (lc : ℕ) (rest body : List ℕ) (ne : Option ℕ) → lc ∷ rest ≡ data_field body ++ le_field ne →
     0 < length rest → (length rest ≡ lc → ⊥) → (length rest ≡ lc + 1 → ⊥) → ⊥
 not_spelled lc rest [] None e more a b = cc

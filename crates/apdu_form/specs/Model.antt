@@ -38,13 +38,13 @@ pub record IsCommand (bytes : List ℕ) (apdu : Apdu) : Type 0 where
 abbrev pub ne_of : ℕ → ℕ
 ne_of le = if le == 0 then 256 else le
 
--- what stands behind Lc: so many bytes of data, or these and Le
+-- what stands after Lc: so many bytes of data, or these and Le
 abbrev pub data_in : ℕ → List ℕ → Option (List ℕ × Option ℕ)
 data_in lc rest =
     if length rest == lc then Some (rest, None)
     else (if length rest == lc + 1 then Some (take lc rest, Some (ne_of (slice_index rest lc))) else None)
 
--- what stands behind the header: nothing, Le, or Lc, which is not 00, and what it counts
+-- what stands after the header: nothing, Le, or Lc, which is not 00, and what it counts
 unfoldable pub fields_in : List ℕ → Option (List ℕ × Option ℕ)
 fields_in [] = Some ([], None)
 fields_in (le ∷ []) = Some ([], Some (ne_of le))
