@@ -34,9 +34,9 @@ no_channel = required CHANNEL_STATUS (0x00 ∷ NOTHING_MORE ∷ [])
 abbrev pub count_object : ℕ → Object
 count_object count = required CHANNEL_DATA_LENGTH (in_a_byte count ∷ [])
 
--- ---- results (8.12), and the objects behind them
+-- ---- results (8.12), and the objects after them
 
--- the command was performed, with these objects behind the result
+-- the command was performed, with these objects after the result
 abbrev pub performed : List Object → List Object
 performed objects = result_object PERFORMED ∷ objects
 

@@ -59,7 +59,7 @@ impl Model for Channel {
     ghost invariant = { λ c. IsParted c.size c.waiting c.outgoing c.stored c.ring };
 }
 
-/// Puts the bytes behind those of a ring that has room for them.
+/// Puts the bytes after those of a ring that has room for them.
 fn put(ring: &mut HeapCircularBuffer<u8>, bytes: &[u8])
     requires { length ring.old.items + length bytes.now ≤ ring.old.capacity }
     ensures { ring.new ≡ buffer (ring.old.items ++ bytes.now) ring.old.capacity }

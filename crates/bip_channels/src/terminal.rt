@@ -139,7 +139,7 @@ impl Bip {
         }
     }
 
-    /// Carries a command out, and puts the result and the objects behind it into the response.
+    /// Carries a command out, and puts the result and the objects after it into the response.
     #[tactic(auto, unfolding(crate::specs::Kept::kept_carried))]
     fn carry_out(&mut self, command: &BipCommand, objects: &mut TlvWriter)
         requires room { length objects.old ≤ 9 }

@@ -82,7 +82,7 @@ closes_again_leaves = refl
 
 -- ---- more of each command
 
--- the bytes are kept behind those that were
+-- the bytes are kept after those that were
 stores : (answered (0xD0 ∷ 0x0E ∷ 0x81 ∷ 0x03 ∷ 0x02 ∷ 0x43 ∷ 0x00 ∷ 0x82 ∷ 0x02 ∷ 0x81 ∷ 0x21 ∷ 0xB6 ∷ 0x03 ∷ 0x41 ∷ 0x42 ∷ 0x43 ∷ []) (one (channel (0x40 ∷ []) [] 0 0))).response ≡ (0x81 ∷ 0x03 ∷ 0x02 ∷ 0x43 ∷ 0x00 ∷ 0x82 ∷ 0x02 ∷ 0x82 ∷ 0x81 ∷ 0x83 ∷ 0x01 ∷ 0x00 ∷ 0xB7 ∷ 0x01 ∷ 0x0C ∷ [])
 unfolding answered carried_out bip_of command_of command_in opening_in closing_in receiving_in sending_in status_in template_in needed details_found list_of template_of value_at length_at tag_at object_at outline_at outline_within tagged
 stores = refl
