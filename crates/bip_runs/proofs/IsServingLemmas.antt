@@ -236,6 +236,6 @@ at_end place text found script left line why end at gives is end_is =
     (subst (λ p. Stops p text found left (BadLine (script.number + 1))) (sym at)
     (record { next = []; parted = gives.0.lines_are ∙ sym (append-nil found); is = tt; counted = ap (λ count. count + 1) gives.1; reach = IsTakenFor-read_out text found left gives.0 }))
 
--- behind `start` it may end
+-- after `start` it may end
 pub at_last : (place : Place) (text : List ℕ) (found : LineList) (script : ScriptReader) (left : Option (List ℕ)) (line : ScriptLine) → place ≡ Behind → GivesNext text found script left line (Ok false) → Stops place text found left Finished
 at_last place text found script left line at gives = (at, gives.0)

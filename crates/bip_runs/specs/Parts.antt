@@ -13,6 +13,7 @@ pub data Part : Type 0 where
   Does : Occurrence → Part
   Foreign : Part
 
+-- what a line is here: `cmd`, `net echo` and `net drop` are what happens to the terminal
 abbrev pub part_of : ScriptLine → Part
 part_of Passed = Blank
 part_of Start = Begins
@@ -32,7 +33,7 @@ occurrences_of line = occurrences (part_of line)
 
 -- ---- where lines may stand
 
--- where the script goes on behind a part, if it may stand here: up to the first `start` that alone, and then what happens
+-- where the script goes on after a part, if it may stand here: up to the first `start` that alone, and then what happens
 abbrev pub step : Place → Part → Option Place
 step Before Blank = Some Before
 step Before Begins = Some Behind
@@ -43,11 +44,11 @@ step Behind Begins = None
 step Behind (Does one) = Some Behind
 step Behind Foreign = None
 
--- behind a line
+-- after a line
 abbrev pub moved : Place → ScriptLine → Option Place
 moved place line = step place (part_of line)
 
--- behind these lines, if each is in its place
+-- after these lines, if each is in its place
 abbrev pub moved_by : Place → List ScriptLine → Option Place
 moved_by place [] = Some place
 moved_by place (line ∷ more) = option_and_then (λ next. moved_by next more) (moved place line)

@@ -37,6 +37,8 @@ IsBadAt place [] = IsUnstarted place
 IsBadAt place (None ∷ more) = Unit {0}
 IsBadAt place (Some bytes ∷ more) = (line : ScriptLine) → IsLine bytes line → moved place line ≡ None
 
+-- Why a script goes no further, of which these lines were read: it was read out and `start` was in it, or the next line is bad, or the source
+-- failed. That the sink failed is said apart, and no card is there that could be reset.
 abbrev pub Stops : Place → List ℕ → LineList → Option (List ℕ) → PlayEnd → Type 0
 Stops place text found left Finished = (place ≡ Behind) × IsReadOut text found left
 Stops place text found left (BadLine number) = GoesOn text found left (IsBadAt place) number
@@ -78,6 +80,7 @@ pub record StopsServing (text : List ℕ) (before taken : Option (List ℕ)) : T
   pub written : Becomes (TakesFront (text_of (lines_of newest (channels_after earlier)))) (append_known before (shown earlier)) taken
   pub in_order : AreInOrder (history said)
 
+-- what a run comes to by its end
 abbrev pub BipComesTo : List ℕ → Option (List ℕ) → Option (List ℕ) → Option (List ℕ) → PlayEnd → Type 0
 BipComesTo text before left taken SinkFailed = StopsServing text before taken
 BipComesTo text before left taken ResetFailed = ⊥
@@ -95,7 +98,7 @@ pub record IsGoodBip (text : List ℕ) : Type 0 where
   pub said : List ScriptLine
   pub good : AreInPlace (lines text) said Behind
 
--- The line behind these is the first of the text that is in no form or out of its place, or the text ends there and has no `start`.
+-- The line after these is the first of the text that is in no form or out of its place, or the text ends there and has no `start`.
 pub record IsFirstBadBip (text : List ℕ) (found : LineList) : Type 0 where
   pub said : List ScriptLine
   pub place : Place

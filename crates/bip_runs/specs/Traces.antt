@@ -25,6 +25,7 @@ lines_of (Commands bytes) channels = command_lines bytes (answered bytes channel
 lines_of (Echoes number count) channels = event_lines (echoed number count channels).event
 lines_of (Cuts number) channels = event_lines (cut number channels).event
 
+-- the text of these lines of the trace
 abbrev pub text_of : List TraceLine → List ℕ
 text_of lines = flat_map trace_text lines
 

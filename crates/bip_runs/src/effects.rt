@@ -30,7 +30,7 @@ pub enum Effect<'a> {
     OutOfPlace,
 }
 
-/// Where a run stands in its script: up to `start`, or behind it.
+/// Where a run stands in its script: up to `start`, or after it.
 #[derive(Clone, Copy, Debug, PartialEq, Eq)]
 pub enum Place {
     Before,

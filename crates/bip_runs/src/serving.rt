@@ -19,7 +19,7 @@ use script_reader::{PlayEnd, ScriptReader, end_for};
 use std::alloc::Global;
 use uicc_types::OutOfMemory;
 
-/// Has a new terminal carry out a script: `start`, and behind it proactive commands and what the network does. Shows each command,
+/// Has a new terminal carry out a script: `start`, and after it proactive commands and what the network does. Shows each command,
 /// each response and each event, and answers why the run ends. It takes all memory before the script is read.
 pub fn serve<R: Source, W: Sink>(
     alloc: Global,
