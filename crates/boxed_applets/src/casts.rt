@@ -62,7 +62,7 @@ macro_rules! in_box {
     }};
 }
 
-/// Puts the applet of a shelf behind those of the shelves before it.
+/// Puts the applet of a shelf after those of the shelves before it.
 #[tactic(auto, using(crate::proofs::CastsLemmas::one_more))]
 pub fn put_on_shelf<B: Applet>(
     cast: &mut Vec<Option<B>>,
