@@ -23,7 +23,7 @@ grown xs ys start end k n ordered within fits =
     ∙ ap (λ j. take j (held ++ after)) sum ∙ take-add (end - start) n (held ++ after)
     ∙ (rw (take_at held after _ len, drop_at held after _ len, take-append-le n ys (post_of end k xs) fits, same) refl)
 
--- the same where all places of a list are in use: bytes were moved in it, and others then written behind them
+-- the same where all places of a list are in use: bytes were moved in it, and others then written after them
 pub refilled : (bytes : ArrayVec ℕ) (moved shown out : List ℕ) (end room count : ℕ)
     → length moved ≡ array_vec_len bytes → shown ≡ (with_items bytes moved).items → length out ≡ length (mid_of end room shown)
     → end ≤ length moved → count ≤ length out

@@ -108,7 +108,7 @@ pub record IsReadOut (text : List ℕ) (given : LineList) (left : Option (List �
   pub told : left ≡ Some []
   pub lines_are : lines text ≡ given
 
--- Of this text no more was taken than it needs to know the line behind these: but for the last piece, which has at most 602 bytes,
+-- Of this text no more was taken than it needs to know the line after these: but for the last piece, which has at most 602 bytes,
 -- these lines alone are known. Or they are all lines of the text, and the source has nothing left.
 pub record IsTakenFor (text : List ℕ) (given : LineList) (left : Option (List ℕ)) : Type 0 where
   pub first : List ℕ

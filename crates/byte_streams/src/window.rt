@@ -26,7 +26,7 @@ pub(crate) enum Found {
 
 #[derive(Drop)]
 pub(crate) struct Window {
-    // All its places are in use, so that a source can write into those behind `end`.
+    // All its places are in use, so that a source can write into those after `end`.
     bytes: ArrayVec<u8, SIZE>,
     start: usize,
     end: usize,
