@@ -66,7 +66,7 @@ still_its_own (Tree command) apdu old new on due moves = record { table = moves.
 
 -- ---- STATUS
 
--- behind the command itself
+-- after the command itself
 pub status_moved : (old mid new : CardParts) → mid.table ≡ old.table → mid.channels ≡ old.channels → mid.verified ≡ old.verified → mid.boxes ≡ old.boxes → MovesStatus mid new → MovesStatus old new
 status_moved old mid new table channels verified boxes later = record {
   table = later.table ∙ ap (λ (now : Loaded). record now { rows = new.table.rows }) table;
@@ -101,7 +101,7 @@ status_keeps state seen selection apdu =
     settled_keeps selection (status_told state selection apdu)
     (past (Keeps selection) _ _ _ (past (Keeps selection) _ _ _ (past_given (Keeps selection) _ _ _ (λ file. refl))))
 
--- ---- behind what was due
+-- ---- after what was due
 
 pub acts_anew : {X : Type 0} (result : Result X StoreFault) (old begun new : CardParts) (bytes : List ℕ) (out : Answer) → BeginsAnew old begun → begun.is_on ≡ old.is_on
     → ActsAs result begun new out (in_whole begun bytes) → OnOk result (ActsAnew old bytes out new)

@@ -1,4 +1,4 @@
--- Commits that are at most so many, and what stands behind those that were done.
+-- Commits that are at most so many, and what stands after those that were done.
 use Rattle.std.proofs.Common.{◌≡◌, ◌⊎◌, inl, inr, ℕ, zero, suc, ◌+◌, ◌<◌, ◌≤◌, List, [], ◌∷◌, length, Option, Some, None, option_map, Result, Ok, Err, refl, sym, ◌∙◌, ap, subst, ⊎_elim, arith, Contains, IsSomeAnd, slice_index_or}
 use Rattle.std.proofs.lemmas.List.{get_or_read_under}
 use Rattle.uicc_types.specs.Counts.{raised_by}

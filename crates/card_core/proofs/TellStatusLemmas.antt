@@ -77,7 +77,7 @@ pub tells_or_not : (card : CardState) (apdu : Apdu) → IsTelling card apdu (set
 unfolding TellsOrNot carried_out file_outcome
 tells_or_not card apdu = by_outcome card apdu (status_told card.persistent (selection_on card (channel_of apdu.class)) apdu) refl (status_is card.persistent (selection_on card (channel_of apdu.class)) apdu)
 
--- ---- what a fault left behind it
+-- ---- what a fault left after it
 
 any_weaker : {X : Type 0} (P Q : X → Type 0) (o : Option X) → ((x : X) → P x → Q x) → IsSomeAnd o P → IsSomeAnd o Q
 any_weaker P Q None each holds = holds

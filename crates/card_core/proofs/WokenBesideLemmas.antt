@@ -14,7 +14,7 @@ use Rattle.toolkit_model.specs.Commands.{woken_mind, woken_boxes}
 use Rattle.card_model.proofs.WokenLemmas.{length-woken_boxes, woken_at}
 use Rattle.card_core.specs.Boxes.{woken_beside}
 
--- what stands behind those that were put over
+-- what stands after those that were put over
 behind : {X : Type 0} (front back : List X) (k : ℕ) (d : X) → length front ≡ length back → k < length back → get_or (take k front ++ drop k back) k d ≡ get_or back k d
 behind front [] k d same low = absurd (omega (arith, low))
 behind [] (y ∷ back) k d same low = absurd (omega (arith, same))

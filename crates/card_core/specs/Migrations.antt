@@ -9,7 +9,7 @@ use Rattle.card_state.specs.Memory.{Memory}
 use Rattle.card_state.specs.Migration.{ends_low, entries_end_low}
 use Rattle.card_state.specs.Persistent.{Persistent}
 
--- a card of version 1 whose files leave room for what a wide card has behind them
+-- a card of version 1 whose files leave room for what a wide card has after them
 abbrev pub is_migrated : Persistent → Bool
 is_migrated state = not state.is_wide && list_all ends_low state.files
 

@@ -10,7 +10,7 @@ use Rattle.card_core.specs.Starts.{Opens}
 use Rattle.card_core.specs.Cards.{card_of, memory_of, IsCardReady}
 use Rattle.card_core.specs.Parts.{CardParts}
 
--- the shelves behind the last box are empty
+-- the shelves after the last box are empty
 abbrev pub with_all_shelves : List (Option AppletState) → List (Option AppletState)
 with_all_shelves boxes = boxes ++ replicate (32 - length boxes) None
 

@@ -1,4 +1,5 @@
-//! What holds of every table of a card. The functions do nothing: each one's contract is the law.
+//! What holds of every table of a card. The functions do nothing: each one's contract is the law. Those that carry out a reset, an opening
+//! or a command call them for their proofs; no other crate sees them.
 ghost use Rattle.card_core.specs.Laws.{TheMfIsThere, TablesHaveRows, KeysAreOwn};
 
 use card_state::{standing_is_sound, standing_keys_are_own};

@@ -19,7 +19,7 @@ use layout_laws::{migration_stands, stores_stand};
 use store_form::{Store, StoreFault, Writes};
 use uicc_types::Full;
 
-// Whether the bytes of a file lie below those that a wide card has behind its files.
+// Whether the bytes of a file lie below those that a wide card has after its files.
 fn ends_low(node: &Node) -> bool
     ensures { result ≡ entry_ends_low node.now }
 {

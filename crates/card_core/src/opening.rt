@@ -116,7 +116,7 @@ impl<S: Store, B: Applet> CardOver<S, B> {
     ghost use Rattle.card_core.specs.Cards.{parts_of};
     ghost use Rattle.card_core.specs.Openings.{IsOpened};
 
-    /// Opens the card that the store holds, with these boxes on the shelves from 0 on; a shelf behind the last of them is empty. The
+    /// Opens the card that the store holds, with these boxes on the shelves from 0 on; a shelf after the last of them is empty. The
     /// store is recovered and mounted, each registered applet's box is tested, then a card of version 1 of the layout is migrated,
     /// where its files leave room for that, and at last the registered applets are woken. All the memory that the card needs is
     /// taken first. However it ends, just one recovery of the store is asked for, but none before a `Memory`.

@@ -106,11 +106,11 @@ impl<S: Store, B: Applet> CardOver<S, B> {
     /// that has these entries. A command of the toolkit, or STATUS, that commits nothing meets no fault, nor does one that makes,
     /// deletes or resizes files and changes nothing. Where nothing was due before it, a command that a fault stops leaves the
     /// table as it was, whatever was committed: with that a card goes on whose memory shows no card any more. Whatever a command
-    /// comes to, it leaves as it was what isn't its own to move; behind what was due, a card that begins anew takes it.
+    /// comes to, it leaves as it was what isn't its own to move; after what was due, a card that begins anew takes it.
     ///
     /// Over a store that tells its bytes, an answer other than `6581` comes after one commit for each that the command has, and
-    /// no other. Where the memory fails or power is lost, what it holds is the state behind the commits that were acknowledged, or
-    /// behind one more; and one that has none leaves the bytes as they were, also then. Over any store how often it commits is
+    /// no other. Where the memory fails or power is lost, what it holds is the state after the commits that were acknowledged, or
+    /// after one more; and one that has none leaves the bytes as they were, also then. Over any store how often it commits is
     /// told as its answer is, but for a command on PINs.
     pub fn transmit(&mut self, apdu: &[u8], out: &mut Answer) -> Result<(), CardFault>
         requires ready { IsCardReady (parts_of S.Store B.Applet self.old) }

@@ -1,4 +1,4 @@
--- The rows that were passed stand in the places, and behind them what stood there.
+-- The rows that were passed stand in the places, and after them what stood there.
 use Rattle.std.proofs.Common.{◌≡◌, ◌++◌, take, drop}
 use Rattle.card_core.proofs.registered.keep_all.Given as goal
 

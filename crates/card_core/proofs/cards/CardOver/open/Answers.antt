@@ -1,4 +1,4 @@
--- The opened card is set out part by part: the boxes given fill all shelves with empty ones behind, and a migrated card is a card still.
+-- The opened card is set out part by part: the boxes given fill all shelves with empty ones after, and a migrated card is a card still.
 use Rattle.std.proofs.Common.{true, false, None, option_map, refl, subst, arith, rules}
 use Rattle.std.proofs.lemmas.List.{length-map}
 use Rattle.card_state.specs.declared.entries.Loaded.{Loaded}
