@@ -87,7 +87,7 @@ ascends_so (x ∷ xs) is =
     let both = and_parts (list_all (λ y. nat_lt x y) xs) (ascends xs) is in
     pairs_cons (λ a b. a < b) x xs (All-weaker (λ y. nat_lt x y ≡ true) (λ y. x < y) (λ y. ltb-true x y) xs (AllPass-from_list_all (λ y. nat_lt x y) xs both.0)) (ascends_so xs both.1)
 
--- a list that ascends has nothing twice, so that its head is not behind it
+-- a list that ascends has nothing twice, so that its head is not among the others
 not_behind : (x : ℕ) (xs : List ℕ) → Ascend (x ∷ xs) → (c : ℕ) → Contains xs c → x < c
 not_behind x xs up c there = All-contains (λ b. x < b) xs c (pairs_head (λ a b. a < b) x xs up) there
 

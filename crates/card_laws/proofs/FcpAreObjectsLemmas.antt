@@ -34,7 +34,7 @@ of_pins pins = object 0x90 (enabled_bits 0x80 pins ∷ []) ++ flat_map (λ (pin 
 pins_spelled : (pins : List Pin) → of_pins pins ≡ all_spelled (pins_told pins)
 pins_spelled pins = ap (λ (l : List ℕ). object 0x90 (enabled_bits 0x80 pins ∷ []) ++ l) (keys_spelled pins)
 
--- what stands behind the rule
+-- what stands after the rule
 abbrev ends_told : List Pin → Descriptor → List Object
 ends_told pins file = if is_df file then (0xC6, of_pins pins) ∷ [] else (0x80, to_be_bytes w16 file.size) ∷ (0x88, short_told file) ∷ []
 

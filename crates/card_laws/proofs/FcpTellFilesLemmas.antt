@@ -121,7 +121,7 @@ same_short false false a b one other is = let same : a.short * 8 ≡ b.short * 8
 same_short true false a b one other is = let long : 0 ≡ 1 = ap (λ (l : List ℕ). length l) is in absurd (omega (arith, long))
 same_short false true a b one other is = let long : 1 ≡ 0 = ap (λ (l : List ℕ). length l) is in absurd (omega (arith, long))
 
--- ---- what stands behind the rule
+-- ---- what stands after the rule
 
 abbrev ends_told : Bool → List ℕ → Descriptor → List Object
 ends_told df pins file = if df then (0xC6, pins) ∷ [] else (0x80, to_be_bytes w16 file.size) ∷ (0x88, short_told file) ∷ []

@@ -1,4 +1,4 @@
--- Objects that are spelled one behind the other are read back.
+-- Objects that are spelled one after the other are read back.
 use Rattle.std.proofs.Common.{◌≡◌, ℕ, suc, zero, ◌+◌, ◌<◌, ◌≤◌, Bool, true, false, List, [], ◌∷◌, ◌++◌, length, Option, Some, refl, ap, ◌∙◌, arith, length-append, nat_le, if◌then◌else◌, option_map, option_and_then, All, flat_map}
 use Rattle.std.proofs.lemmas.List.Elements.{All-head, All-tail}
 use Rattle.access_rules.proofs.PartInLemmas.{part_only}

@@ -154,7 +154,7 @@ module _ {X : Type 0} where
   past_given None status rest first next tested = tested_at_head status rest
   past_given (Some z) status rest first next tested = tested_further status rest (and_given (first z) next) (tested z)
 
-  -- what is tested before access, and what behind it
+  -- what is tested before access, and what after it
   tested_before : (has_parameters has_length : Bool) (fits : Descriptor → Bool) (state : Persistent) (selection : Selection) (short : Option ℕ) (rest : Descriptor → List Refusal) (next : Descriptor → Result X StatusWord)
       → ((file : Descriptor) → IsTestedBy (rest file) (next file))
       → IsTestedBy ((not has_parameters, WRONG_PARAMETERS) ∷ (not has_length, WRONG_LENGTH) ∷ of_file state selection short (λ file. (not (fits file), WRONG_STRUCTURE) ∷ (is_deactivated file, CONDITIONS_NOT_SATISFIED) ∷ rest file))

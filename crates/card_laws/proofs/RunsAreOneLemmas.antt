@@ -44,7 +44,7 @@ calm_command old new apdu items (inr (inr e)) calm =
     let is = All-head NotCut item.Cut [] (All-tail NotCut (item.Command apdu) (item.Cut ∷ []) all.1) in
     absurd (cc)
 
--- the same was seen, and the same card stands behind it
+-- the same was seen, and the same card stands after it
 abbrev AreOne : List TraceItem → List TraceItem → Machine → Machine → Type 0
 AreOne items other new left = (items ≡ other) × (new ≡ left)
 

@@ -24,7 +24,7 @@ abbrev pub FaultsAreSeen : Type 0
 FaultsAreSeen = (old new : Meter) (plans : List Plan) (shown : List TraceItem)
     → IsCounted old new plans shown → ShowsNoFailure shown → ShowsNoCut shown → (new.faults ≡ old.faults) × (new.cuts ≡ old.cuts)
 
--- What a card is asked, and what it holds, determine what is seen of it where nothing fails and no power is lost, and the card behind that:
+-- What a card is asked, and what it holds, determine what is seen of it where nothing fails and no power is lost, and the card after that:
 -- two such runs of the same steps from the same card are one.
 abbrev pub RunsAreOne : Type 0
 RunsAreOne = (first now left : Machine) (steps : List Step) (shown other : List TraceItem) → IsRun first steps shown now → IsRun first steps other left

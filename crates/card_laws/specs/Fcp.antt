@@ -1,4 +1,4 @@
--- How file control parameters are read back: BER-TLV objects, one behind the other (ISO 7816-4, 5.2.2), and those that tell of a file (ETSI
+-- How file control parameters are read back: BER-TLV objects, one after the other (ISO 7816-4, 5.2.2), and those that tell of a file (ETSI
 -- TS 102 221, 11.1.1.3).
 use Rattle.std.specs.Prelude.{ℕ, zero, suc, ◌*◌, ◌==◌, if◌then◌else◌, List, [], ◌∷◌, ◌++◌, length, map, Option, Some, None, option_map, option_and_then}
 use Rattle.std.specs.Int.{to_be_bytes, w16}

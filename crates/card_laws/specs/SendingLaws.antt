@@ -27,7 +27,7 @@ put_out (sent ∷ others) session = put_out others (putting_out sent.0 sent.1 se
 abbrev pub number_out : SessionState → Option ℕ
 number_out session = option_map (λ out. out.number) session.out
 
--- the command that is outstanding behind others has the number that is given so many later
+-- the command that is outstanding after others has the number that is given so many later
 abbrev pub CommandsAreNumbered : Type 0
 CommandsAreNumbered =
     (session : SessionState) (sent : List (Option ℕ × Proactive)) (owner : Option ℕ) (command : Proactive)

@@ -77,7 +77,7 @@ holds number = (true, record { 0 = number })
 abbrev lacks : ℕ → Refusal
 lacks number = (false, record { 0 = number })
 
--- 00B0000A02 begins behind the end of the file, and nothing else speaks against it
+-- 00B0000A02 begins after the end of the file, and nothing else speaks against it
 past_the_end : refusals_of_read_binary card nothing_verified (on_ef (Some 1)) (command 0xB0 0x00 0x0A [] (Some 2))
     ≡ lacks 0x6A86 ∷ lacks 0x6700 ∷ lacks 0x6986 ∷ lacks 0x6981 ∷ lacks 0x6985 ∷ lacks 0x6982 ∷ holds 0x6B00 ∷ []
 unfolding descriptor_in descriptors_in file_found may arr_found ruling_record
