@@ -20,7 +20,7 @@ is_cut item.Cut = true
 is_cut _ = false
 
 -- As many faults were counted as failures of the memory are seen, and as many cuts as losses of power are. As many plans as these
--- were given to the device, and its latest is the last of them. Where none was in force before, none is behind it.
+-- were given to the device, and its latest is the last of them. Where none was in force before, none is after it.
 pub record IsCounted (old new : Meter) (given : List Plan) (items : List TraceItem) : Type 0 where
   pub failures : new.faults ≡ raised_by (count_by is_failure items) old.faults
   pub cuts : new.cuts ≡ raised_by (count_by is_cut items) old.cuts

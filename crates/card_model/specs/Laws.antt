@@ -48,7 +48,7 @@ CallsAreCounted =
     → Caused old new (count_by is_failure seen ≡ 1) (count_by is_cut seen ≡ 1)
     → IsCounted old new [] seen
 
--- A plan that was set, and taken back behind what was done under it, is counted where it names a fault.
+-- A plan that was set, and taken back after what was done under it, is counted where it names a fault.
 abbrev pub PlansAreCounted : Type 0
 PlansAreCounted =
     (old middle : Meter) (plan : Plan) (seen : List TraceItem)

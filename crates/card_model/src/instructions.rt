@@ -12,7 +12,7 @@ pub enum Instruction {
     Tree(TreeCommand),
 }
 
-/// A command between the toolkit and the terminal (ETSI TS 102 221, 11.2), or one of those who install applets.
+/// A command between the toolkit and the terminal (ETSI TS 102 221, 11.2), or one that installs or deletes an applet.
 #[derive(Clone, Copy, Debug, PartialEq, Eq)]
 pub enum CatCommand {
     TerminalProfile,

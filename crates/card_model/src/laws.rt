@@ -11,7 +11,7 @@ pub fn restarts_are_good()
 {}
 
 /// What the device's counts say of a run: they say it of a call that had its causes, of a stretch with a plan that was set before it
-/// and taken back behind it, and of two stretches one after the other.
+/// and taken back after it, and of two stretches one after the other.
 pub fn runs_are_counted()
     ensures calls { CallsAreCounted }
     ensures plans { PlansAreCounted }
