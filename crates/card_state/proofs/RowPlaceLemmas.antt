@@ -27,6 +27,6 @@ pub below_32 : (wide : Bool) (shelf : ℕ) → shelf < row_count wide → shelf 
 below_32 true shelf low = low
 below_32 false shelf low = omega arith
 
--- a row lies behind what stands first
+-- a row lies after what stands first
 pub row_above : (shelf : ℕ) → 896 ≤ row_place shelf
 row_above shelf = ⊎_elim {C = 896 ≤ row_place shelf} (λ h. omega (arith, row_place_low shelf h)) (λ h. omega (arith, row_place_high shelf h)) (cases_lt shelf LOWER_ROW_COUNT)

@@ -35,7 +35,7 @@ pub record HasBytes (table : Loaded) (node : Node) : Type 0 where
   pub some : 1 ≤ node.size
   pub to : node.place + node.size ≤ data_end table.wide
 
--- its records: of at least one byte, at least one and at most 254, and no bytes behind them
+-- its records: of at least one byte, at least one and at most 254, and no bytes after them
 pub record HasFullRecords (node : Node) : Type 0 where
   pub width : 1 ≤ node.length
   pub some : 1 ≤ record_count node

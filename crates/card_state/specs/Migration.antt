@@ -22,6 +22,6 @@ entry_ends_low node = not (node.used && is_ef_kind node.kind) || nat_le (node.pl
 unfoldable pub entries_end_low : Loaded → Bool
 entries_end_low table = list_all entry_ends_low table.nodes
 
--- the rows of the shelves above 15, behind the files of a wide card: none of them is used
+-- the rows of the shelves above 15, after the files of a wide card: none of them is used
 unfoldable pub no_upper_rows : List ℕ
 no_upper_rows = replicate 1024 0

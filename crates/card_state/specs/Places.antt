@@ -7,7 +7,7 @@ use Rattle.card_state.specs.declared.sizes.TheConstants.{PIN_WIDTH, ROW_STRIDE, 
 abbrev pub memory_size : ℕ
 memory_size = MEMORY_SIZE
 
--- where the byte of the version stands: 4, behind the four bytes by which a card is known
+-- where the byte of the version stands: 4, after the four bytes by which a card is known
 abbrev pub version_place : ℕ
 version_place = VERSION
 
@@ -27,7 +27,7 @@ sequence_place = SEQUENCE
 abbrev pub pin_place : ℕ → ℕ
 pin_place slot = PINS + PIN_WIDTH * slot
 
--- the rows; those of the shelves above 15 stand behind the files of a wide card
+-- the rows; those of the shelves above 15 stand after the files of a wide card
 abbrev pub row_place : ℕ → ℕ
 row_place shelf = if nat_lt shelf LOWER_ROW_COUNT then ROWS + ROW_STRIDE * shelf else UPPER_ROWS + ROW_STRIDE * (shelf - LOWER_ROW_COUNT)
 

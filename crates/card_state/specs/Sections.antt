@@ -104,7 +104,7 @@ fits_wide total = nat_le total (data_end true - data_place)
 abbrev pub new_df : Persistent → File → ℕ → File
 new_df state df id = record mf { number = length state.files; parent = df.number; id = id }
 
--- a new EF in this DF: activated, blank, with the next number, and its bytes behind those of all files so far
+-- a new EF in this DF: activated, blank, with the next number, and its bytes after those of all files so far
 abbrev pub new_ef : Persistent → File → ℕ → Shape → Option ℕ → Option Rule → File
 new_ef state df id shape short rule = record {
   number = length state.files;

@@ -69,7 +69,7 @@ pub record IsSoundFile (wide : Bool) (files : List File) (file : File) : Type 0 
   pub df : IsDf file → IsSoundDf file
   pub ef : IsEf file → IsSoundEf wide file
 
--- no byte is in both
+-- one ends before the other begins, so no byte is in both
 abbrev pub AreApart : File → File → Type 0
 AreApart a b = (a.place + a.size ≤ b.place) ⊎ (b.place + b.size ≤ a.place)
 

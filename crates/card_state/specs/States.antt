@@ -20,7 +20,7 @@ record_count node = node.size / node.length
 abbrev pub records_of : ℕ → ℕ → List ℕ → List (List ℕ)
 records_of width count bytes = map (λ index. slice_range bytes (index * width) (index * width + width)) (range_with_len 0 count)
 
--- the records from record 1 on: the one at the head, then those behind it, and round to those before it
+-- the records from record 1 on: the one at the head, then those after it, and round to those before it
 abbrev pub from_head : ℕ → List (List ℕ) → List (List ℕ)
 from_head head records = drop head records ++ take head records
 

@@ -11,7 +11,7 @@ use uicc_types::Shelf;
 /// How many bytes the memory has.
 pub const MEMORY_SIZE: usize = 65_536;
 
-/// Where the version of the layout stands, behind the four bytes by which a card is known.
+/// Where the version of the layout stands, after the four bytes by which a card is known.
 pub const VERSION: u16 = 4;
 
 /// The version of a narrow card.
@@ -52,7 +52,7 @@ pub fn place_of_pin(slot: u8) -> u16
     PINS + PIN_WIDTH as u16 * u16::from(slot)
 }
 
-/// Where a row stands: those of the shelves above 15 behind the files of a wide card.
+/// Where a row stands: those of the shelves above 15 after the files of a wide card.
 pub fn place_of_row(shelf: Shelf) -> u16
     requires { shelf.0 < ROW_COUNT }
     ensures { result ≡ row_place shelf.0 }
