@@ -74,7 +74,7 @@ no_mode first words options no_load no_bip o none asked r =
 
 -- ---- `load`
 
--- the words behind `load` are these two numbers and these options
+-- the words after `load` are these two numbers and these options
 pub record Loads (first second : List ℕ) (options : List (List ℕ)) (start count : ℕ) (devices : Devices) : Type 0 where
   pub start_is : IsNumber 0 999999999 first start
   pub count_is : IsNumber 0 MOST_LINES second count

@@ -5,7 +5,7 @@ use Rattle.std.proofs.Common.{◌≡◌, ℕ, ◌-◌, ◌≤◌, List, [], ◌�
 abbrev At : {A B : Type 0} → (A → B) → List A → ℕ → A → B → Type 0
 At f words place word bytes = (bytes ≡ f word) × (word ≡ slice_index_or words place word)
 
--- the first, and those behind it
+-- the first, and those after it
 pub first_and_rest : {A B : Type 0} → (f : A → B) (words : List A) (first : A) (bytes : B) → 1 ≤ length words → At f words 0 first bytes
     → bytes ∷ map f (take (length words - 1) (drop 1 words)) ≡ map f words
 first_and_rest f [] first bytes some at = let none : ⊥ = omega arith in absurd none
@@ -13,7 +13,7 @@ first_and_rest f (word ∷ more) first bytes some at =
     let behind : take (length (word ∷ more) - 1) more ≡ more = take_all _ _ (omega arith) in
     ap (λ l. bytes ∷ map f l) behind ∙ ap (λ b. b ∷ map f more) (at.0 ∙ ap f at.1)
 
--- the first two, and those behind them
+-- the first two, and those after them
 pub two_and_rest : {A B : Type 0} → (f : A → B) (words : List A) (a b : A) (first second : B) → 2 ≤ length words → At f words 0 a first → At f words 1 b second
     → first ∷ second ∷ map f (take (length words - 2) (drop 2 words)) ≡ map f words
 two_and_rest f [] a b first second some at_0 at_1 = let none : ⊥ = omega arith in absurd none

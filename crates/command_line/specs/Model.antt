@@ -1,4 +1,4 @@
--- The words behind the program's name: a command, and then its options; `bip` has none.
+-- The words after the program's name: a command, and then its options; `bip` has none.
 use Rattle.std.specs.Prelude.{◌≡◌, ℕ, List, [], ◌∷◌, codes}
 use Rattle.script_form.specs.Values.{IsNumber}
 use Rattle.command_line.specs.OptionForms.{AreOptions, devices_of}
@@ -73,7 +73,7 @@ transport_of Bip = Direct
 abbrev pub IsNamedWith : List ℕ → Transport → Mode → Type 0
 IsNamedWith word transport mode = IsNamed word mode × (transport_of mode ≡ transport)
 
--- the options in these words, behind so many others, choose this transport, and what a run is made over
+-- the options in these words, after so many others, choose this transport, and what a run is made over
 pub record AreChosen (before : ℕ) (words : List (List ℕ)) (transport : Transport) (devices : Devices) : Type 0 where
   pub options : Options
   pub named : AreOptions before words options

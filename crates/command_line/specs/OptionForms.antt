@@ -1,4 +1,4 @@
--- The options behind a command: a store, an image, and a link, each of a name and a value. Each stands at most once, in any order.
+-- The options after a command: a store, an image, and a link, each of a name and a value. Each stands at most once, in any order.
 use Rattle.std.specs.Prelude.{◌≡◌, ◌⊎◌, ℕ, ◌+◌, Bool, true, false, List, [], ◌∷◌, Some, None, codes, unwrap_or}
 use Rattle.command_line.specs.declared.options.Options.{Options}
 use Rattle.command_line.specs.declared.requests.Devices.{Devices}
@@ -42,7 +42,7 @@ pub record AddsLink (name value : List ℕ) (others all : Options) : Type 0 wher
 abbrev pub AddsOption : List ℕ → List ℕ → ℕ → Options → Options → Type 0
 AddsOption name value place others all = AddsStore name value others all ⊎ AddsImage name place others all ⊎ AddsLink name value others all
 
--- The words behind so many others are options, and name this. The first word of all stands at place 0.
+-- The words after so many others are options, and name this. The first word of all stands at place 0.
 abbrev pub AreOptions : ℕ → List (List ℕ) → Options → Type 0
 AreOptions before [] all = all ≡ without_options
 AreOptions before (name ∷ []) all = ⊥

@@ -1,4 +1,4 @@
-//! The options behind a command: a store, an image, and a link, each at most once and in any order.
+//! The options after a command: a store, an image, and a link, each at most once and in any order.
 ghost use Rattle.std.specs.Prelude.{◌≡◌, ◌≤◌, ◌+◌, codes, length, map, string_bytes};
 ghost use Rattle.script_form.specs.Reads.{Reads};
 ghost use Rattle.command_line.specs.OptionForms.{AddsImage, AddsLink, AddsOption, AddsStore, AreOptions, devices_of};
@@ -35,7 +35,7 @@ pub(crate) fn devices_of(options: Options) -> Devices
     }
 }
 
-/// What the options in these words name, which stand behind so many others. None where the words are not options.
+/// What the options in these words name, which stand after so many others. None where the words are not options.
 pub(crate) fn options_of(before: usize, words: &[String]) -> Option<Options>
     requires { before ≤ 3 }
     ensures { Reads (AreOptions before (map string_bytes words.now)) result }

@@ -1,4 +1,4 @@
-//! The words behind the program's name.
+//! The words after the program's name.
 ghost use Rattle.std.specs.Prelude.{◌≡◌, ◌≤◌, ◌↔◌, ◌∷◌, IsTrue, codes, map, option_map, string_bytes};
 ghost use Rattle.script_form.specs.Reads.{Reads};
 ghost use Rattle.command_line.specs.Model.{AreChosen, IsBipWord, IsLoadWord, IsMadeFor, IsNamedWith, IsRequest};
@@ -8,7 +8,7 @@ use crate::requests::{Devices, MOST_LINES, Mode, Request, Transport};
 use script_form::number_of;
 
 /// What the words ask for: `play`, `open`, `phone`, or `load` with two numbers; then `--store journal` or `--store pages`,
-/// `--image PATH`, and behind `phone` alone `--link t0`, each at most once and in any order; or `bip` alone. None where they are in
+/// `--image PATH`, and after `phone` alone `--link t0`, each at most once and in any order; or `bip` alone. None where they are in
 /// no such form.
 pub fn asked_for(words: &[String]) -> Option<Request>
     ensures { Reads (IsRequest (map string_bytes words.now)) result }
@@ -53,7 +53,7 @@ fn is_bip(word: &str) -> bool
     word == "bip"
 }
 
-/// The request of `bip` with these words behind it: it takes none.
+/// The request of `bip` with these words after it: it takes none.
 fn bip_of(others: &[String]) -> Option<Request>
     ensures { Reads (IsRequest (codes "bip" ∷ map string_bytes others.now)) result }
 {
@@ -99,7 +99,7 @@ fn mode_named(word: &str, transport: Transport) -> Option<Mode>
     }
 }
 
-/// The request of `load` with these words behind it.
+/// The request of `load` with these words after it.
 fn load_of(others: &[String]) -> Option<Request>
     ensures { Reads (IsRequest (codes "load" ∷ map string_bytes others.now)) result }
 {
@@ -137,7 +137,7 @@ fn load_on(start: u32, count: u32, devices: Option<Devices>) -> Option<Request>
 /// The largest number of nine digits.
 const LARGEST_START: u32 = 999_999_999;
 
-/// What a run is made over by the options in these words, which stand behind so many others. None where they are no options, or
+/// What a run is made over by the options in these words, which stand after so many others. None where they are no options, or
 /// name a link.
 fn devices_named(before: usize, words: &[String]) -> Option<Devices>
     requires { before ≤ 3 }
