@@ -68,7 +68,7 @@ template_is bytes others found rest first whole read end =
     ap template_of whole ∙ ap (λ (r : Result (List ℕ × List ℕ) TlvFault). r >>= unless_trailing first (length (first ∷ others))) read ∙
     ap (λ (x : List ℕ). unless_trailing first (length (first ∷ others)) (found, x)) end
 
--- what has no value behind its first byte is no template, and neither is what goes on behind it
+-- what has no value after its first byte is no template, and neither is what goes on after it
 pub no_template : (bytes others : List ℕ) (first : ℕ) (fault : TlvFault) (tag : ℕ) (content : List ℕ) → bytes ≡ first ∷ others → value_at 0 others ≡ Err fault → IsTemplate bytes tag content → ⊥
 unfolding template_of
 no_template bytes others first fault tag content whole read h =

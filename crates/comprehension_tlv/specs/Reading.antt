@@ -29,17 +29,17 @@ tag_at at (first ∷ rest) =
     if (first == 0) || (first == 128) || (first == 255) then Err (NoTag at)
     else (if first == 127 then long_tag_at at rest else Ok (nat_le 128 first, first % 128, rest))
 
--- the length that stands in the byte behind 81
+-- the length that stands in the byte after 81
 abbrev pub one_byte_at : ℕ → List ℕ → Result (ℕ × List ℕ) TlvFault
 one_byte_at at (low ∷ rest) = Ok (low, rest)
 one_byte_at at [] = Err (CutShort at)
 
--- the length that stands in the two bytes behind 82
+-- the length that stands in the two bytes after 82
 abbrev pub two_bytes_at : ℕ → List ℕ → Result (ℕ × List ℕ) TlvFault
 two_bytes_at at (high ∷ low ∷ rest) = Ok (256 * high + low, rest)
 two_bytes_at at _ = Err (CutShort at)
 
--- the length at the front, and what follows: 00 to 7F stand for themselves, 81 and 82 for the one byte or the two behind them (7.1.2)
+-- the length at the front, and what follows: 00 to 7F stand for themselves, 81 and 82 for the one byte or the two after them (7.1.2)
 unfoldable pub length_at : ℕ → List ℕ → Result (ℕ × List ℕ) TlvFault
 length_at at [] = Err (CutShort at)
 length_at at (first ∷ rest) =

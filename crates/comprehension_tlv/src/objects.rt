@@ -59,7 +59,7 @@ fn read_length(bytes: &[u8], at: usize) -> Result<(usize, &[u8]), TlvFault>
     }
 }
 
-/// The length and the value behind it, and the bytes after them. `at` is the place of the object.
+/// The length and the value after it, and the bytes after them. `at` is the place of the object.
 #[tactic(auto, unfolding(crate::specs::Reading::value_at))]
 #[inline(always)]
 pub fn read_value(bytes: &[u8], at: usize) -> Result<(&[u8], &[u8]), TlvFault>

@@ -55,7 +55,7 @@ impl TlvWriter {
         add(&mut self.bytes, first, value)
     }
 
-    /// Adds an object whose value is a byte and the bytes behind it, as `put` adds it.
+    /// Adds an object whose value is a byte and the bytes after it, as `put` adds it.
     pub fn put_behind(&mut self, tag: u16, flag: bool, first: u8, rest: &[u8]) -> Result<(), Full>
         requires low { 1 ≤ tag }
         requires high { tag ≤ 126 }
@@ -131,7 +131,7 @@ fn add(bytes: &mut Octets, tag: u8, value: &[u8]) -> Result<(), Full>
     }
 }
 
-/// The same for a value that is a byte and the bytes behind it.
+/// The same for a value that is a byte and the bytes after it.
 #[tactic(auto, unfolding(crate::specs::Writing::tagged))]
 fn add_behind(bytes: &mut Octets, tag: u8, first: u8, rest: &[u8]) -> Result<(), Full>
     ensures room { IsOk result ↔ (length bytes.old + length (tagged tag (first ∷ rest.now)) ≤ 255) }
