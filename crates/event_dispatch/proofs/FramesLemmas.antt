@@ -17,7 +17,7 @@ few_bytes (p ∷ parts) all =
 pub All-remove : {X : Type 0} (P : X → Type 0) (xs : List X) (i : ℕ) → All P xs → All P (remove xs i)
 All-remove P xs i all = All-append P (take i xs) (drop (suc i) xs) (All-take P i xs all) (All-drop P (suc i) xs all)
 
--- one passes of the frames from a place on where that at the place does, or one behind it
+-- one passes of the frames from a place on where that at the place does, or one after it
 next_any : (p : List ℕ → Bool) (parts : List (List ℕ)) (at : ℕ) → at < length parts → list_any p (drop at parts) ≡ (p (slice_index_or parts at []) || list_any p (drop (suc at) parts))
 next_any p [] at low = grind (arith, low)
 next_any p (part ∷ parts) zero low = refl

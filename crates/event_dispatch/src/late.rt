@@ -78,7 +78,7 @@ impl Late {
         Shelf(self.frames.get(at)[0])
     }
 
-    /// Puts a trigger behind the others, where there are fewer than 16.
+    /// Puts a trigger after the others, where there are fewer than 16.
     pub fn push(&mut self, shelf: Shelf, code: u8, body: &Octets)
         requires { length self.old < MOST }
         ensures { self.new ≡ self.old ++ record { shelf = shelf.0; code = code; body = body.now } ∷ [] }

@@ -105,7 +105,7 @@ impl Waiting {
         first
     }
 
-    /// Puts a command that can be sent behind the others, where there are fewer than 32.
+    /// Puts a command that can be sent after the others, where there are fewer than 32.
     pub fn push(&mut self, shelf: Shelf, command: &Proactive)
         requires room { length self.old < MOST }
         requires sendable { CanBeSent command.now }
