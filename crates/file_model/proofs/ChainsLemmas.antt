@@ -1,4 +1,4 @@
--- What comes of a chain of tests: each refusal is one of the known ones, and what stands behind all tests is as it should be.
+-- What comes of a chain of tests: each refusal is one of the known ones, and what stands after all tests is as it should be.
 use Rattle.std.proofs.Common.{◌≡◌, Bool, true, false, Result, Ok, Err, refl, Option, Some, None, MatchResult}
 use Rattle.uicc_types.specs.declared.answers.StatusWord.{StatusWord}
 use Rattle.file_model.specs.Chains.{refused_if, and_given, given}

@@ -81,7 +81,7 @@ abbrev Answers : List ℕ → Option ℕ → Type 0
 Answers numbers None = numbers ≡ []
 Answers numbers (Some least) = IsLeast numbers least
 
--- an element of a list is the first one or one behind it
+-- an element of a list is the first one or one after it
 pub either_place : {X : Type 0} (x : X) (xs : List X) (y : X) → Contains (x ∷ xs) y → (x ≡ y) ⊎ Contains xs y
 either_place x xs y (zero, low, is) = inl is
 either_place x xs y (suc k, low, is) = inr (k, omega (arith, low), is)

@@ -31,7 +31,7 @@ has_binary_parameters apdu = not (p1_has_short apdu.p1) || nat_le 0x81 apdu.p1 &
 abbrev pub short_in_p1 : Apdu → Option ℕ
 short_in_p1 apdu = if p1_has_short apdu.p1 then Some (apdu.p1 - 0x80) else None
 
--- the offset: P2 behind a short file identifier, else P1 and P2
+-- the offset: P2 after a short file identifier, else P1 and P2
 abbrev pub offset_of : Apdu → ℕ
 offset_of apdu = if p1_has_short apdu.p1 then apdu.p2 else apdu.p1 * 256 + apdu.p2
 

@@ -122,7 +122,7 @@ IsLawfulPinCommand command =
 
 -- ---- records
 
--- Bytes are found in a record exactly where they stand in it one behind the other.
+-- Bytes are found in a record exactly where they stand in it one after the other.
 abbrev pub FindsWholeParts : Type 0
 FindsWholeParts =
     (wanted bytes : List ℕ) → (has_within wanted bytes ≡ true) ↔ ((before : List ℕ) × (behind : List ℕ) × (bytes ≡ before ++ wanted ++ behind))

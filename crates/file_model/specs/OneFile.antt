@@ -90,7 +90,7 @@ DeletesOneFile =
 
 -- ---- RESIZE FILE
 
--- it has so many bytes: the first of those that it held, and FF behind them
+-- it has so many bytes: the first of those that it held, and FF after them
 pub record FitsOneFile (before : Persistent) (df id size : ℕ) (after : Persistent) : Type 0 where
   pub file : File
   pub named : IsNamed before df id file

@@ -69,7 +69,7 @@ has_pin_parameters apdu = apdu.p1 == 0x00
 abbrev pub value_presented : Apdu → List ℕ
 value_presented apdu = take 8 apdu.body
 
--- the new value of the PIN: the data behind the first eight bytes
+-- the new value of the PIN: the data after the first eight bytes
 abbrev pub new_value : Apdu → List ℕ
 new_value apdu = drop 8 apdu.body
 

@@ -56,7 +56,7 @@ short_in_p2 apdu = if short_bits apdu == 0 then None else Some (short_bits apdu)
 abbrev pub is_cyclic : Descriptor → Bool
 is_cyclic file = file.kind == cyclic_kind
 
--- the record behind this one; without a record pointer it is the first. Behind the last of a cyclic file comes its first; behind that of a linear
+-- the record after this one; without a record pointer it is the first. After the last of a cyclic file comes its first; after that of a linear
 -- fixed one there is none.
 abbrev pub next_record : Descriptor → Option ℕ → Option ℕ
 next_record file None = Some 1
@@ -195,7 +195,7 @@ backward_mode = 5
 abbrev pub has_search_parameters : Apdu → Bool
 has_search_parameters apdu = not (short_bits apdu == 31) && (mode_bits apdu == forward_mode || mode_bits apdu == backward_mode)
 
--- the bytes stand in the record one behind the other
+-- the bytes stand in the record one after the other
 abbrev pub has_within : List ℕ → List ℕ → Bool
 has_within wanted [] = length wanted == 0
 has_within wanted (byte ∷ bytes) = starts_with (λ a b. a == b) (byte ∷ bytes) wanted || has_within wanted bytes
@@ -249,7 +249,7 @@ searched state seen selection apdu = and_given (file_to_search (descriptors_in s
 
 -- ---- INCREASE
 
--- the current EF, or a short file identifier behind b8
+-- the current EF, or a short file identifier after b8
 abbrev pub has_increase_parameters : Apdu → Bool
 has_increase_parameters apdu = (apdu.p1 == 0x00 || nat_le 0x81 apdu.p1 && nat_le apdu.p1 0x9E) && apdu.p2 == 0x00
 

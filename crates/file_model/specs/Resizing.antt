@@ -19,7 +19,7 @@ use Rattle.file_model.specs.Outcomes.{is_deactivated}
 use Rattle.file_model.specs.TreeOutcomes.{TreeOutcome, df_on, child_named}
 use Rattle.file_model.specs.Rooms.{room_at}
 
--- behind the identifier
+-- after the identifier
 abbrev pub size_asked : Apdu → ℕ
 size_asked apdu = number_at apdu.body 2
 

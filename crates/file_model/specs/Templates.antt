@@ -72,15 +72,15 @@ IsInRange (Ef id shape short rule) = (id.0 < 2 ^ 16) × IsShortRule rule
 
 -- ---- how it is read
 
--- behind the file descriptor, of five bytes where there are records and else of two, the identifier stands here
+-- after the file descriptor, of five bytes where there are records and else of two, the identifier stands here
 abbrev pub id_place : List ℕ → ℕ
 id_place bytes = if has_records (slice_index bytes 4) then 11 else 8
 
--- a rule stands behind the identifier
+-- a rule stands after the identifier
 abbrev pub has_rule : List ℕ → ℕ → Bool
 has_rule bytes behind = slice_index bytes behind == 0x8B
 
--- the rule, where one stands behind the identifier: its EF_ARR and the number of its record
+-- the rule, where one stands after the identifier: its EF_ARR and the number of its record
 abbrev pub rule_told : List ℕ → ℕ → Option RuleReference
 rule_told bytes behind = if has_rule bytes behind then Some (record { arr = record { 0 = number_at bytes (behind + 2) }; number = slice_index bytes (behind + 4) }) else None
 
@@ -95,7 +95,7 @@ shape_told bytes at =
     else if slice_index bytes 4 == cyclic_kind then Cyclic (slice_index bytes 7) (slice_index bytes 8)
     else Transparent (number_at bytes at)
 
--- and behind its two bytes the short file identifier
+-- and after its two bytes the short file identifier
 abbrev pub short_told : List ℕ → ℕ → ℕ
 short_told bytes at = if slice_index bytes (at + 3) == 0 then 0 else slice_index bytes (at + 4) / 8
 

@@ -51,7 +51,7 @@ pub fn one_file_goes()
 {}
 
 /// After a RESIZE FILE that is carried out the file of the current DF with the identifier that the command names has the size that
-/// is asked for: the first of the bytes that it held, and FF behind them. Each other file is as it was.
+/// is asked for: the first of the bytes that it held, and FF after them. Each other file is as it was.
 pub fn one_file_is_resized()
     ensures { ResizesOneFile }
 {}

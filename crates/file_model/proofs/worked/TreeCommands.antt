@@ -90,7 +90,7 @@ it_is_read = refl
 abbrev made : File
 made = ef 4 0x41 0x6F50 0 3995 4 (Bytes (replicate 4 0xFF))
 
--- it comes behind the last file, and is selected
+-- it comes after the last file, and is selected
 it_is_created : created card admin at_mf 0 (create four_bytes)
     ≡ Ok (record { channels = channels (at_ef 0 4) None; passed = with_files (three ++ made ∷ []) ∷ [] })
 unfolding created creating refused_if given asked_in new_file_told template object room_at free_number file_found descriptors_in descriptor_in selection_of
@@ -104,7 +104,7 @@ it_is_there_already : created with_made admin at_mf 0 (create four_bytes) ≡ Er
 unfolding created refused_if given asked_in new_file_told template object file_found descriptors_in descriptor_in
 it_is_there_already = refl
 
--- with two bytes more it moves behind itself, and what it held comes with it
+-- with two bytes more it moves after itself, and what it held comes with it
 abbrev moved : File
 moved = ef 4 0x41 0x6F50 0 3999 6 (Bytes (replicate 6 0xFF))
 
