@@ -72,7 +72,7 @@ first_of count part later short =
     (length_in-length_bytes (length part) (part ++ later) short) (behind_length (length part) (part ++ later))
     ∙ ap₂ (λ (first : List ℕ) (rest : List ℕ). first ∷ frames_of count rest) (take-append_seam part later) (drop-append_seam part later)
 
--- frames that lie one after the other are read back, whatever lies behind them
+-- frames that lie one after the other are read back, whatever lies after them
 pub frames_of-in_line : (parts : List (List ℕ)) (later : List ℕ) → length (in_line parts) < 2 ^ 64 → frames_of (length parts) (in_line parts ++ later) ≡ parts
 frames_of-in_line [] later short = none_of (in_line [] ++ later)
 frames_of-in_line (part ∷ parts) later short =

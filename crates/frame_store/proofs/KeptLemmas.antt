@@ -53,7 +53,7 @@ fits_at frames used block kept at inside =
       kept.inside,
     )
 
--- bytes were written behind the first of a list
+-- bytes were written after the first of a list
 pub begins : (block bytes next : List ℕ) (at : ℕ) → next ≡ take at block ++ (bytes ++ drop (at + length bytes) block) → at ≤ length block
     → take (at + length bytes) next ≡ take at block ++ bytes
 begins block bytes next at written inside =
@@ -62,7 +62,7 @@ begins block bytes next at written inside =
     ap₂ (λ (k : ℕ) (bs : List ℕ). take k bs) long written ∙ take-append-add first (bytes ++ later) (length bytes)
     ∙ ap (λ (bs : List ℕ). first ++ bs) (take-append_seam bytes later)
 
--- one more frame was written behind the others: its length, and then its bytes
+-- one more frame was written after the others: its length, and then its bytes
 pub pushed : (parts : List (List ℕ)) (part block first next size : List ℕ) (used : ℕ)
     → in_line parts ≡ take used block → used + 8 + length part ≤ length block → size ≡ length_bytes (length part)
     → first ≡ take used block ++ (size ++ drop (used + length size) block)
@@ -121,7 +121,7 @@ length_read parts at used block lies fits short inside =
     ap (λ (bs : List ℕ). 8 + length_in bs) (from_frame parts at used block lies inside ∙ laid-append part later)
     ∙ ap (λ (n : ℕ). 8 + n) (length_in-length_bytes (length part) (part ++ later) small) ∙ sym (length-laid part)
 
--- the bytes that are read behind the length
+-- the bytes that are read after the length
 pub got : (parts : List (List ℕ)) (at used start end : ℕ) (block : List ℕ) → in_line parts ≡ take used block → at < length parts
     → start ≡ length (in_line (take at parts)) → end ≡ start + length (laid (get_or parts at []))
     → take (end - (start + 8)) (drop (start + 8) block) ≡ get_or parts at []
@@ -136,7 +136,7 @@ got parts at used start end block lies inside starts ends =
     drop-behind : (n m : ℕ) (xs : List ℕ) → drop n (drop m xs) ≡ drop (m + n) xs
     drop-behind n m xs = drop-drop n m xs
 
--- bytes that were moved to the front, and what lies behind them still
+-- bytes that were moved to the front, and what lies after them still
 moved_down : (later : List ℕ) (n : ℕ) → paste later 0 (drop n later) (length later - n) ≡ drop n later ++ drop (length later - n) later
 moved_down later n =
     let k = length later - n in
@@ -151,7 +151,7 @@ placed block part len start all fits =
     let long : len ≡ length next = omega (arith, all, length-append (take start block) (part ++ later), length-take-le start block (omega (arith, fits)), length-append part later, length-drop (length part) (drop start block), length-drop start block) in
     ap (λ (k : ℕ). take k (next ++ drop (length next) block)) long ∙ take-append_seam next (drop (length next) block)
 
--- the used bytes behind a gap were moved down over it
+-- the used bytes after a gap were moved down over it
 pub closed_up : (block later moved : List ℕ) (len start end used : ℕ) → len ≡ length block → start ≤ end → end ≤ used → used ≤ length block
     → later ≡ slice_range block start used → moved ≡ paste later 0 (drop (end - start) later) (length later - (end - start)) → length moved ≡ length later
     → (let next = take start block ++ (moved ++ drop (length moved) (drop start block)) in

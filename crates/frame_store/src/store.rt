@@ -13,7 +13,7 @@ use uicc_types::{Full, OutOfMemory};
 /// The number of bytes in which the length of a frame is written.
 const LENGTH_SIZE: usize = 8;
 
-/// Byte strings, called frames, in the order in which they came. They lie one after the other in one block, each behind its
+/// Byte strings, called frames, in the order in which they came. They lie one after the other in one block, each after its
 /// length, and the block is closed up where a frame is removed. `new` takes the block, and no call takes other memory.
 ///
 /// The block goes back where the store ends. No contract says so: what an allocator promises of `deallocate` holds as well
@@ -79,7 +79,7 @@ fn write(block: &mut Vec<u8, Lodged>, at: usize, bytes: &[u8])
     block.slice_mut(at..at + bytes.len()).copy_from_slice(bytes);
 }
 
-/// Moves the used bytes behind a gap down over it.
+/// Moves the used bytes after a gap down over it.
 fn close_gap(block: &mut Vec<u8, Lodged>, start: usize, end: usize, used: usize)
     requires in_order { (start ≤ end) × (end ≤ used) }
     requires in_bounds { used ≤ length block.old.items }
