@@ -27,7 +27,7 @@ timer_object timer = required TIMER_IDENTIFIER (timer ∷ [])
 
 -- ---- terminal responses
 
--- the result that the command was performed (00), and one object behind it
+-- the result that the command was performed (00), and one object after it
 abbrev pub performed : Object → List Object
 performed object = result_object PERFORMED ∷ object ∷ []
 
