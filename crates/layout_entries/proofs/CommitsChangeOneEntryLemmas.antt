@@ -304,7 +304,7 @@ module _ (content : List ℕ) (long : length content ≡ 65536) where
       (λ slot h. inl (omega arith))
       ∙ ap (λ (r : Row). record (table_of content) { rows = set (table_of content).rows shelf r }) here
 
--- the kept bytes are those that stand with the row and those that stand apart, with others behind them
+-- the kept bytes are those that stand with the row and those that stand apart, with others after them
 apart_first : (bytes more : List ℕ) (count : ℕ) → length bytes ≡ count → take count (patched 0 bytes more) ≡ bytes
 unfolding patched
 apart_first bytes more count long = take_at bytes (drop (0 + length bytes) more) count long

@@ -82,7 +82,7 @@ module _ (bytes spelled : List ℕ) (width from to : ℕ) (long : length bytes �
       (λ passed. let bounds : (from ≤ k) × (k + 1 ≤ to) = among_is from to k (k + 1) passed in byte_in k bounds.0 (omega (arith, bounds.1)))
       (λ failed. byte_out k (not_among_is from to k failed))
 
-  -- a number of bytes, and bytes behind it
+  -- a number of bytes, and bytes after it
   pub counted : {X : Type 0} (f : ℕ → List ℕ → X) (k end : ℕ) → k + 1 ≤ end → IsTrue (is_among from to k end || is_beside from to k end)
       → f (get_or now k 0) (slice_range now (k + 1) end)
       ≡ (if is_among from to k end then f (get_or spelled k 0) (slice_range spelled (k + 1) end) else f (get_or bytes k 0) (slice_range bytes (k + 1) end))
@@ -235,7 +235,7 @@ merged_kept_anew bytes more more' row from low =
     let written : is_among from 51 18 51 ≡ true = among from 51 18 51 low (lit≤ tt) in
     rw written refl
 
--- what a row keeps is written with its length, and with any number of the bytes behind it
+-- what a row keeps is written with its length, and with any number of the bytes after it
 module _ (bytes more : List ℕ) (row : Row) (to : ℕ) (long : length bytes ≡ 51) (few : length row.kept ≤ 32) (enough : 19 + length row.kept ≤ to) (inside : to ≤ 51) where
   abbrev written : List ℕ
   written = patched 18 (slice_range (row_spelled row) 18 to) bytes
@@ -277,7 +277,7 @@ module _ (bytes more : List ℕ) (row : Row) (to : ℕ) (long : length bytes ≡
       (ap (λ (n : ℕ). take n (slice_range written 8 18)) (as_before 7 (lit< tt)) ∙ ap (λ (l : List ℕ). take (get_or bytes 7 0) l) (range_before 8 18 (lit≤ tt)))
       kept_read
 
--- 32 bytes and others behind them
+-- 32 bytes and others after them
 module _ (front rest : List ℕ) (long : length front ≡ 32) where
   byte_before : (k : ℕ) → k < 32 → get_or (front ++ rest) k 0 ≡ get_or front k 0
   byte_before k low = grind (arith, places)

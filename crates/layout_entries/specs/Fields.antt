@@ -10,7 +10,7 @@ use Rattle.card_state.specs.Blank.{unused_node, absent_pin, unused_row}
 use Rattle.card_state.specs.Decoding.{node_of, pin_of, row_of, node_bytes, pin_bytes, row_bytes, bytes_apart}
 use Rattle.layout_entries.specs.Spelling.{node_spelled, pin_spelled, row_spelled}
 
--- the first byte of each field, and the one behind its last
+-- the first byte of each field, and the one after its last
 abbrev pub node_fields : List (ℕ × ℕ)
 node_fields = (0, 1) ∷ (1, 2) ∷ (2, 4) ∷ (4, 5) ∷ (5, 6) ∷ (6, 7) ∷ (7, 8) ∷ (8, 10) ∷ (10, 12) ∷ (12, 14) ∷ (14, 15) ∷ (15, NODE_WIDTH) ∷ []
 

@@ -21,7 +21,7 @@ NodesAreReadBack = (node : Node) → HasNodeRanges node → node_of (node_spelle
 abbrev pub PinsAreReadBack : Type 0
 PinsAreReadBack = (pin : PinSlot) → HasPinRanges pin → pin_of (pin_spelled pin) ≡ pin
 
--- the kept bytes from the 33rd on stand apart, with any bytes behind them
+-- the kept bytes from the 33rd on stand apart, with any bytes after them
 abbrev pub RowsAreReadBack : Type 0
 RowsAreReadBack = (row : Row) (behind : List ℕ) → HasRowRanges row → row_of (row_spelled row) (drop KEPT_WIDTH row.kept ++ behind) ≡ row
 
@@ -75,7 +75,7 @@ ChangesOneLongRow =
     → table_of (applied (row_part shelf row from ROW_WIDTH ∷ kept_part shelf row ∷ []) content)
     ≡ record (table_of content) { rows = slice_set (table_of content).rows shelf (shown_row (merged_row from ROW_WIDTH (row_there content shelf) row)) }
 
--- of a row what it keeps, if that is at most 32 bytes: its length, so many bytes, and any number of those behind them
+-- of a row what it keeps, if that is at most 32 bytes: its length, so many bytes, and any number of those after them
 abbrev pub ChangesKept : Type 0
 ChangesKept =
     (content : List ℕ) (shelf to : ℕ) (row : Row) → length content ≡ memory_size → shelf < row_count (is_wide content) → length row.kept ≤ KEPT_WIDTH → 19 + length row.kept ≤ to → to ≤ ROW_WIDTH

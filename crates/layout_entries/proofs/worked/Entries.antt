@@ -45,7 +45,7 @@ made_card = record {
   next_sequence = 0;
 }
 
--- each file stands behind the one before
+-- each file stands after the one before
 a_card_is_made : made card ≡ Ok made_card
 unfolding patched
 a_card_is_made = refl
