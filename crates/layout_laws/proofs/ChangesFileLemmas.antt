@@ -24,7 +24,7 @@ use Rattle.layout_laws.specs.Changes.{with_node}
 use Rattle.layout_laws.proofs.EnumerateFromLemmas.{entry_if, seen-set}
 use Rattle.layout_laws.proofs.LiesAmongFilesLemmas.{used, node_count, all_lie_well, lies_where, same_files, same_file, entry_there}
 
--- an EF among the bytes of the files keeps its bytes if a piece is before or behind those
+-- an EF among the bytes of the files keeps its bytes if a piece is before or after those
 pub beside_files : (law : KeepsBytesBeside) (wide : Bool) (content bytes : List ℕ) (place : ℕ) (node : Node) → length content ≡ memory_size → place + length bytes ≤ memory_size
     → (place + length bytes ≤ data_place) ⊎ (data_end wide ≤ place) → LiesAmongFiles wide node → node.kind ≢ df_kind → file_bytes (patched place bytes content) node ≡ file_bytes content node
 beside_files law wide content bytes place node long fits where_to lies other =

@@ -37,7 +37,7 @@ use Rattle.layout_laws.proofs.ChangesFileLemmas.{beside_files}
 
 -- ---- where rows stand
 
--- before the bytes of the files, or behind them
+-- before the bytes of the files, or after them
 row_where : (wide : Bool) (shelf : ℕ) → shelf < row_count wide → (row_place shelf + 51 ≤ data_place) ⊎ ((data_end wide ≤ row_place shelf) × (row_place shelf + 51 ≤ memory_size))
 row_where false shelf low = inl (omega (arith, row_place_low shelf low))
 row_where true shelf low =
@@ -110,7 +110,7 @@ module _ (content : List ℕ) (card : IsCard content) where
 -- ---- the pieces of a row
 
 module _ (beside : KeepsBytesBeside) (content : List ℕ) (card : IsCard content) where
-  -- a piece before the bytes of the files, or behind them
+  -- a piece before the bytes of the files, or after them
   keeps_piece : (now : List ℕ) (place : ℕ) (bytes : List ℕ) → length now ≡ memory_size → place + length bytes ≤ memory_size → (place + length bytes ≤ data_place) ⊎ (data_end (is_wide content) ≤ place)
       → (n : Node) → LiesAmongFiles (is_wide content) n → n.kind ≢ df_kind → file_bytes (patched place bytes now) n ≡ file_bytes now n
   keeps_piece now place bytes long fits where_to n lies other = beside_files beside (is_wide content) now bytes place n long fits where_to lies other

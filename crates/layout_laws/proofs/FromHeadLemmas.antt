@@ -1,4 +1,4 @@
--- Records that lie one behind the other, and a ring of records with its head.
+-- Records that lie one after the other, and a ring of records with its head.
 use Rattle.std.proofs.Common.{◌≡◌, ◌⊎◌, ℕ, ◌+◌, ◌-◌, ◌%◌, ◌<◌, List, [], ◌∷◌, ◌++◌, length, take, drop, set, sym, ◌∙◌, ap, inl, inr, ⊎_elim, arith, length-append}
 use Rattle.std.proofs.lemmas.Bool.{cases_lt}
 use Rattle.std.proofs.lemmas.List.{length-take, length-drop, take-take, drop-set, take-set, drop_all, append-nil}

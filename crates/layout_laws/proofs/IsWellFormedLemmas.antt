@@ -13,7 +13,7 @@ use Rattle.layout_entries.specs.Laws.{KeepsBytesBeside}
 
 -- ---- places
 
--- a row stands among the rows below the entries of the files, or in a wide card behind the bytes of the files
+-- a row stands among the rows below the entries of the files, or in a wide card after the bytes of the files
 pub row_where : (wide : Bool) (shelf : ℕ) → shelf < row_count wide → ((896 ≤ row_place shelf) × (row_place shelf + 51 ≤ 1920)) ⊎ ((data_end wide ≤ row_place shelf) × (row_place shelf + 51 ≤ 64512))
 row_where false shelf low = inl (grind (arith, nat_tests), grind (arith, nat_tests))
 row_where true shelf low =

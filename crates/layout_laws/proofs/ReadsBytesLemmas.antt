@@ -34,7 +34,7 @@ part_again bytes from count k n fits inside =
     let low : j < n = omega arith in
     get_or-bytes_at bytes (from + k) n j low ∙ ap (λ (i : ℕ). get_or bytes i 0) (omega arith) ∙ sym (get_or-bytes_at (bytes_at bytes from count) k n j low ∙ get_or-bytes_at bytes from count (k + j) (omega arith)))
 
--- the record of this number behind the head, and round
+-- the record of this number after the head, and round
 ring_read : (head index : ℕ) (records : List (List ℕ)) (d : List ℕ) → head < length records → index < length records → get_or (from_head head records) index d ≡ get_or records (place_in_ring head (length records) index) d
 ring_read head index records d head_low low =
     let behind : length (drop head records) ≡ length records - head = length-drop head records in

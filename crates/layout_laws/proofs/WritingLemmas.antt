@@ -149,7 +149,7 @@ module _ (is_sound : StandingIsSound) (sound_stands : SoundStands) (beside : Kee
       (λ short. omega (arith, row_limit shelf old change.there, ap length (kept_stay from to old new short change.rest))) change.kept in
       row_put back commit shelf from to old new new change.there change.fields change.ranges change.rest change.kept kept change.events new_sound
 
-  -- what a row keeps with its length, and any number of the bytes behind
+  -- what a row keeps with its length, and any number of the bytes after
   pub kept_changed : (back : RowsAreReadBack) (commit : ChangesKeptBytes) (shelf to : ℕ) (kept : List ℕ) (row : Row) → HasRow table shelf row → length row.text ≤ 10 → length kept ≤ 32 → 19 + length kept ≤ to → to ≤ 51
       → IsSound (with_row_on state shelf (registration_if shelf (record row { kept = kept })))
       → Stands store_mark (after (row_part shelf (record row { kept = kept }) 18 to) content) (with_row table shelf (record row { kept = kept })) (with_row_on state shelf (registration_if shelf (record row { kept = kept })))

@@ -18,7 +18,7 @@ pub record Holds (content : List ℕ) (table : Loaded) (state : Persistent) : Ty
   pub entries : table_of content ≡ table
   pub held : state_in content ≡ state
 
--- No byte of this range is a file's: it lies among the bytes of the files, and each EF ends before it or begins behind it.
+-- No byte of this range is a file's: it lies among the bytes of the files, and each EF ends before it or begins after it.
 pub record IsFreeRange (wide : Bool) (files : List File) (place count : ℕ) : Type 0 where
   pub from : data_place ≤ place
   pub to : place + count ≤ data_end wide

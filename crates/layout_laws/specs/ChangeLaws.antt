@@ -83,7 +83,7 @@ RereadsRow =
     → (let new = reread_row content shelf from to row in
     Holds (after (row_part shelf row from to) content) (with_row (table_of content) shelf new) (with_row_on (state_in content) shelf (registration_if shelf new)))
 
--- at most 32 bytes that a row keeps, with their length, and any number of the bytes behind them
+-- at most 32 bytes that a row keeps, with their length, and any number of the bytes after them
 abbrev pub ChangesKeptBytes : Type 0
 ChangesKeptBytes =
     (content : List ℕ) (shelf to : ℕ) (row : Row) → IsCard content → shelf < row_count (is_wide content) → length row.kept ≤ 32 → 19 + length row.kept ≤ to → to ≤ 51
@@ -126,7 +126,7 @@ ReadsBytes =
     (content : List ℕ) (number offset count : ℕ) (node : Node) (held : List ℕ) → IsCard content → HasNode (table_of content) number node → contents_of content node ≡ Bytes held → offset + count ≤ length held
     → bytes_at content (node.place + offset) count ≡ bytes_at held offset count
 
--- where record `index + 1` lies among so many: behind the head, and round
+-- where record `index + 1` lies among so many: after the head, and round
 abbrev pub place_in_ring : ℕ → ℕ → ℕ → ℕ
 place_in_ring head count index = (head + index) % count
 

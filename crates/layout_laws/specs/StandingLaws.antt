@@ -133,7 +133,7 @@ pub record CodesStand : Type 0 where
   pub registered : RegisteredStands
   pub deregistered : DeregisteredStands
 
--- at most 32 bytes that a used row keeps, with their length, and any number of the bytes behind them
+-- at most 32 bytes that a used row keeps, with their length, and any number of the bytes after them
 abbrev pub KeptBytesStand : Type 0
 KeptBytesStand =
     (store_mark : ℕ) (content : List ℕ) (table : Loaded) (state : Persistent) (shelf to : ℕ) (kept : List ℕ) (row : Row)

@@ -148,7 +148,7 @@ not_before_its_time fits = let low : 2 < 2 = fits.sound.sequence in omega arith
 
 -- ---- ranges
 
--- behind the ring
+-- after the ring
 behind_the_ring : IsBesideNodes table 4012 8
 behind_the_ring = record { from = lit≤ tt; to = lit≤ tt; beside = beside } where
   beside : (number : ℕ) (node : Node) → HasNode table number node → node.kind ≢ df_kind → (node.place + node.size ≤ 4012) ⊎ (4020 ≤ node.place)
