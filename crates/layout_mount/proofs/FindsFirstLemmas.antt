@@ -32,7 +32,7 @@ all_filled f xs n long each =
     let low : k < n = omega arith in
     each k d low ∙ sym (get_or-map-range_with_len f 0 n k k d low (omega arith)))
 
--- so far the elements are those of these numbers, and behind them each is the one that stands for none
+-- so far the elements are those of these numbers, and after them each is the one that stands for none
 pub record IsFilling {X : Type 0} (f : ℕ → X) (blank : X) (count at : ℕ) (xs : List X) : Type 0 where
   pub long : length xs ≡ count
   pub front : (k : ℕ) (d : X) → k < at → get_or xs k d ≡ f k

@@ -86,7 +86,7 @@ module _ (first table upper : List ℕ) (first_long : length first ≡ 8) (table
     at_last at n l found =
         ap (λ (v : List ℕ). take (at + n - at) (drop at v)) (sym is) ∙ ap (λ (j : ℕ). take j (drop at (whole first table upper))) (omega arith) ∙ found
 
-    -- a part of the table, or of what stands behind the files, as a slice of it is written
+    -- a part of the table, or of what stands after the files, as a slice of it is written
     pub table_slice : (at k n m : ℕ) → at ≡ 832 + k → k + n ≤ 3136 → m ≡ n → mid_of k m table ≡ slice_range value at (at + n)
     table_slice at k n m place few same = ap (λ (j : ℕ). take j (drop k table)) same ∙ sym (at_last at n (take n (drop k table)) (in_table at k n place few))
 

@@ -9,7 +9,7 @@ use Rattle.layout_mount.specs.declared.image.Image.TheInside.{Inside}
 unfoldable pub filler : ℕ → List ℕ
 filler count = replicate count 255
 
--- the first bytes, the table behind the store's own bytes, and what a wide card has behind the files, with FF between
+-- the first bytes, the table after the store's own bytes, and what a wide card has after the files, with FF between
 unfoldable pub whole : List ℕ → List ℕ → List ℕ → List ℕ
 whole first table upper = first ++ filler (PINS - 8) ++ table ++ filler (UPPER_ROWS - DATA) ++ upper
 

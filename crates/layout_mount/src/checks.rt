@@ -274,7 +274,7 @@ fn ef_passes(wide: bool, earlier: &[Node], node: &Node) -> bool
         && records_fit(node)
 }
 
-/// Whether the file's entry with these bytes is in order behind these.
+/// Whether the file's entry with these bytes is in order after these.
 pub fn node_passes(wide: bool, number: u8, earlier: &[Node], bytes: &[u8], node: &Node) -> bool
     requires { length bytes.now ≡ NODE_WIDTH }
     ensures { result ≡ is_node wide number earlier.now bytes.now node.now }

@@ -28,7 +28,7 @@ const NODES_AT: usize = NODES as usize - PINS as usize;
 
 const KEPT_AT: usize = KEPT_APART as usize - UPPER_ROWS as usize;
 
-/// The first bytes, the table behind the store's own bytes, and what a wide card has behind the files. A contract sees
+/// The first bytes, the table after the store's own bytes, and what a wide card has after the files. A contract sees
 /// them as one content of the memory, with FF in all other bytes.
 #[derive(Drop)]
 pub struct Image {

@@ -140,7 +140,7 @@ fn shown_node(node: Node) -> Node
     if node.used { node } else { Node::UNUSED }
 }
 
-// The file of this number, behind these.
+// The file of this number, after these.
 fn load_node(image: &Image, wide: bool, earlier: &[Node], number: u8) -> Result<Node, usize>
     requires wide { wide ≡ is_wide image.now }
     requires number { number < NODE_COUNT }

@@ -1,4 +1,4 @@
--- The rows that passed fill the table's front, and on the shelves that a narrow card lacks the unused rows behind them are right.
+-- The rows that passed fill the table's front, and on the shelves that a narrow card lacks the unused rows after them are right.
 use Rattle.std.proofs.Common.{◌≡◌, ℕ, ◌+◌, ◌<◌, ◌≤◌, true, length, take, set, sym, ap, ◌∙◌, arith, subst, below_more, Some}
 use Rattle.std.proofs.lemmas.List.{length-replicate}
 use Rattle.card_state.specs.Blank.{unused_row}

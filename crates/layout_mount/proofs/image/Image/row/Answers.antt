@@ -1,3 +1,5 @@
+-- A row has 51 bytes in 64: those of the shelves 0 to 15 from byte 64 of the table on, those above from the beginning of what is read after the
+-- files. Either way these are the bytes of the whole memory at the place of the row.
 use Rattle.std.proofs.Common.{◌+◌, ◌*◌, ◌-◌, arith}
 use Rattle.card_state.specs.Places.{row_place}
 use Rattle.card_state.proofs.RowPlaceLemmas.{row_place_low, row_place_high}
