@@ -254,7 +254,7 @@ rewritten old new nodes number contents inside is others =
 
 -- ---- files lie apart
 
--- a file ends before those behind it begin
+-- a file ends before those after it begin
 pub ends_before : (nodes : List Node) (j k : ℕ) → j < k → k ≤ length nodes → size_total (take j nodes) + (get_or nodes j unused_node).size ≤ size_total (take k nodes)
 ends_before nodes j k less within =
     let long : length (take k nodes) ≡ k = omega (arith, length-take k nodes) in

@@ -1,4 +1,4 @@
--- The first bytes of a store while a card is written behind them, and after a fault.
+-- The first bytes of a store while a card is written after them, and after a fault.
 use Rattle.std.proofs.Common.{refl, ◌≡◌, ◌⊎◌, ℕ, ◌+◌, ◌≤◌, List, length, sym, ◌∙◌, subst, inl, inr, arith, Some, None, Option, Result, Ok, Err, OnOk, OnErr, IfSome, option_map, is_some}
 use Rattle.list_laws.specs.Patches.{patched, Torn}
 use Rattle.list_laws.proofs.PatchesLemmas.{patched_before}
@@ -57,7 +57,7 @@ stands_or mark state None (Some b) told stands = cc told
 stands_or mark state (Some a) None told stands = cc told
 stands_or mark state (Some a) (Some b) told stands = inr stands
 
--- behind the parts the first bytes were written, or not
+-- after the parts the first bytes were written, or not
 pub kept_last : (mark : ℕ) (state : Persistent) (a b c : Option (List ℕ)) → Becomes KeepsFirst a b → is_some c ≡ is_some b → (c ≡ b) ⊎ IfSome c (λ content. stands_for mark content ≡ Ok state)
     → Becomes (KeepsFirstOr mark state) a c
 kept_last mark state a b c kept told (inl same) = kept_or mark state a c (subst (λ (o : Option (List ℕ)). Becomes KeepsFirst a o) (sym same) kept)

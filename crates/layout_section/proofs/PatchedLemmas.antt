@@ -8,7 +8,7 @@ use Rattle.card_state.specs.Decoding.{bytes_at}
 places_apart : (step a b : ℕ) → a < b → step * a + step ≤ step * b
 places_apart step a b less = grind arith
 
--- one part more, behind those that lie there
+-- one part more, after those that lie there
 pub one_more_there : (R : ℕ → List ℕ → Type 0) (step width at : ℕ) (part bytes : List ℕ) → width ≤ step → length part ≡ width → step * at + width ≤ length bytes → R at part
     → ((k : ℕ) → k < at → R k (bytes_at bytes (step * k) width)) → (k : ℕ) → k < at + 1 → R k (bytes_at (patched (step * at) part bytes) (step * k) width)
 one_more_there R step width at part bytes wide long fits new before k low =

@@ -65,7 +65,7 @@ pub record IsEfBehind (before : ℕ) (node : Node) : Type 0 where
 abbrev pub IsNodeBehind : ℕ → Node → Type 0
 IsNodeBehind before node = (node ≡ df_node node.parent node.id) ⊎ IsEfBehind before node
 
--- the MF and the files behind it, each in its place in the tree, whose bytes lie one after the other
+-- the MF and the files after it, each in its place in the tree, whose bytes lie one after the other
 pub record AreFilesOf (nodes : List Node) (bytes : List ℕ) (total : ℕ) : Type 0 where
   pub some : 1 ≤ length nodes
   pub sum : total ≡ size_total nodes
@@ -83,7 +83,7 @@ pub record AreFiles (inside : Inside) : Type 0 where
   pub table : length inside.nodes ≡ NODE_COUNT
   pub files : AreFilesOf (take inside.count inside.nodes) inside.bytes.items inside.total
 
--- the entries of these files, one behind the other, and their bytes
+-- the entries of these files, one after the other, and their bytes
 pub record SpellsFiles (files : List File) (entries held : List ℕ) : Type 0 where
   pub nodes : List Node
   pub few : length nodes ≤ NODE_COUNT

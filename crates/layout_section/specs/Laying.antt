@@ -30,11 +30,11 @@ pub record SpellsCard (mark : ℕ) (state : Persistent) (card : SpelledCard) : T
   pub rows : SpellsRows (record { list = state.rows; next = state.next_sequence }) card.rows.lower card.rows.upper card.rows.kept
   pub files : SpellsFiles state.files card.files.entries card.files.bytes.now
 
--- the bytes of the files end before the rows behind them, if there are such, and else in the memory
+-- the bytes of the files end before the rows after them, if there are such, and else in the memory
 abbrev pub FitsBefore : SpelledCard → Type 0
 FitsBefore card = data_place + length card.files.bytes.now ≤ data_end card.wide
 
--- the parts behind the first bytes stand in their places; those of a wide card alone behind its files
+-- the parts after the first bytes stand in their places; those of a wide card alone after its files
 pub record IsPrepared (card : SpelledCard) (content : List ℕ) : Type 0 where
   pub long : length content ≡ memory_size
   pub pins : bytes_at content PINS (ROWS - PINS) ≡ card.pins

@@ -29,7 +29,7 @@ AreSlots inside = AreSlotsOf inside.slots
 abbrev pub pins_of : Inside → List Pin
 pins_of inside = map pin_state (present_pins inside.slots)
 
--- the slots of these PINs, one behind the other
+-- the slots of these PINs, one after the other
 pub record SpellsPins (pins : List Pin) (bytes : List ℕ) : Type 0 where
   pub slots : List PinSlot
   pub long : length slots ≡ PIN_COUNT

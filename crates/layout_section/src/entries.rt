@@ -76,7 +76,7 @@ pub fn place_of_record(node: &Node, index: u8, count: usize) -> Option<usize>
     Some(usize::from(node.place) - DATA + end - length)
 }
 
-// An entry as it is spelled; behind the files that of no file.
+// An entry as it is spelled; after the files that of no file.
 fn spelled_at(nodes: &[Node], number: usize) -> EntryBytes
     ensures value { result ≡ node_spelled (slice_index_or nodes.now number unused_node) }
     ensures long { length result ≡ NODE_WIDTH }
@@ -90,7 +90,7 @@ fn spelled_at(nodes: &[Node], number: usize) -> EntryBytes
 /// How many bytes the entries of all files have.
 pub const NODES_LENGTH: usize = NODE_WIDTH * NODE_COUNT;
 
-/// The entries of all files as they are spelled; those behind these files are of no file.
+/// The entries of all files as they are spelled; those after these files are of no file.
 pub fn spell_nodes(nodes: &[Node]) -> [u8; NODES_LENGTH]
     ensures { (k : ℕ) → k < NODE_COUNT →
         bytes_at result (NODE_WIDTH * k) NODE_WIDTH ≡ node_spelled (slice_index_or nodes.now k unused_node) }

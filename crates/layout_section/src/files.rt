@@ -167,7 +167,7 @@ impl Files {
         self.count += 1;
     }
 
-    /// Adds an EF behind the others, with the bytes FF.
+    /// Adds an EF after the others, with the bytes FF.
     pub fn add_ef(
         &mut self,
         parent: u8,

@@ -13,7 +13,7 @@ use card_state::places::{DATA, KEPT_APART, NODES, PINS, ROWS, UPPER_ROWS};
 use store_form::{Store, StoreFault, Writes};
 use uicc_types::Full;
 
-// Writes a part of a card behind its first bytes.
+// Writes a part of a card after its first bytes.
 fn write_part<S: Store>(store: &mut S, at: usize, part: &[u8]) -> Result<(), StoreFault>
     requires recovered { S.recovered store.old ≡ true }
     requires size { S.byte_count store.old ≡ memory_size }
@@ -43,7 +43,7 @@ fn write_tables<S: Store>(store: &mut S, card: &SpelledCard<'_>) -> Result<(), S
     write_part(store, NODES as usize, &card.files.entries)
 }
 
-// Writes what a wide card has behind its files.
+// Writes what a wide card has after its files.
 fn write_upper<S: Store>(store: &mut S, rows: &SpelledRows) -> Result<(), StoreFault>
     requires recovered { S.recovered store.old ≡ true }
     requires size { S.byte_count store.old ≡ memory_size }

@@ -49,7 +49,7 @@ fn slot_for(key: u8, enabled: bool) -> Option<usize>
     }
 }
 
-// The slots as they are spelled, one behind the other.
+// The slots as they are spelled, one after the other.
 fn spell_slots(slots: &[PinSlot]) -> [u8; PINS_LENGTH]
     requires { length slots.now ≡ PIN_COUNT }
     ensures { (k : ℕ) → k < PIN_COUNT →
@@ -104,7 +104,7 @@ impl Pins {
         Ok(())
     }
 
-    /// The three slots as they are spelled, one behind the other.
+    /// The three slots as they are spelled, one after the other.
     pub fn spelled(&self) -> [u8; PINS_LENGTH]
         ensures { SpellsPins self.now result }
     {

@@ -129,7 +129,7 @@ fn kept_apart(row: &Row) -> [u8; KEPT_WIDTH]
     bytes
 }
 
-// What each row keeps beyond 32 bytes, one behind the other.
+// What each row keeps beyond 32 bytes, one after the other.
 fn spell_kept(rows: &[Row]) -> [u8; KEPT_LENGTH]
     requires long { length rows.now ≡ ROW_COUNT }
     requires kept { All (λ row. length row.kept ≤ KEPT_LIMIT) rows.now }

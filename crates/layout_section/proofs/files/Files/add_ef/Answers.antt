@@ -1,4 +1,4 @@
--- The bytes that become FF lie behind those of all files, so the others hold what they held, and the new EF holds just these.
+-- The bytes that become FF lie after those of all files, so the others hold what they held, and the new EF holds just these.
 use Rattle.std.proofs.Common.{◌≡◌, ℕ, ◌+◌, ◌<◌, ◌≤◌, List, [], ◌∷◌, ◌++◌, length, take, replicate, ap, sym, subst, refl, inr, ◌∙◌, arith}
 use Rattle.std.proofs.lemmas.List.{length-set, take_more_set, length-replicate}
 use Rattle.std.specs.Vec.{with_items}
