@@ -14,7 +14,7 @@ pub only_there : {X : Type 0} (x y : X) → Contains (x ∷ []) y → x ≡ y
 only_there x y (zero, low, is) = is
 only_there x y (suc k, low, is) = absurd (omega arith)
 
--- what isn't the first stands behind it
+-- what isn't the first stands after it
 pub in_rest : {X : Type 0} (y : X) (xs : List X) (x : X) → y ≢ x → Contains (y ∷ xs) x → Contains xs x
 in_rest y xs x other (zero, low, is) = absurd (other is)
 in_rest y xs x other (suc k, low, is) = (k, omega (arith, low), is)
@@ -40,7 +40,7 @@ kept_there p (y ∷ ys) x (suc k, low, same) passes = over (p y) (kept_there p y
 pub of_filtered : {X : Type 0} (p : X → Bool) (xs : List X) (x : X) → Contains (filter p xs) x → Contains xs x
 of_filtered p xs x there = All-contains (Contains xs) (filter p xs) x (All-filter p (Contains xs) xs (All-contains_itself xs)) there
 
--- ---- what holds of the elements of two lists, one behind the other
+-- ---- what holds of the elements of two lists, one after the other
 
 pub front_of : {X : Type 0} (P : X → Type 0) (front back : List X) → All P (front ++ back) → All P front
 front_of P [] back all = All-nil P

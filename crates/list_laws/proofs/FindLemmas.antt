@@ -57,7 +57,7 @@ pub first-filter : {X : Type 0} (p : X → Bool) (xs : List X) → slice_get (fi
 first-filter p [] = refl
 first-filter p (x ∷ xs) = first_filtered p x xs (p x) (find p xs) (first-filter p xs)
 
--- the first of two lists, one behind the other
+-- the first of two lists, one after the other
 pub first-append : {X : Type 0} (xs ys : List X) → slice_get (xs ++ ys) 0 ≡ option_or (slice_get xs 0) (slice_get ys 0)
 first-append [] ys = refl
 first-append (x ∷ xs) ys = refl

@@ -4,7 +4,7 @@ use Rattle.std.proofs.lemmas.Bool.{cases_lt}
 use Rattle.std.proofs.lemmas.List.{length-append, length-take, length-drop, get_or-take, get_or-drop, get_or_append_left, get_or-append_right}
 use Rattle.std.proofs.lemmas.Grind.{same_number_lists}
 
--- things of one width, one behind the other: an earlier one ends before a later one begins
+-- things of one width, one after the other: an earlier one ends before a later one begins
 pub one_behind : (width a b : ℕ) → a < b → a * width + width ≤ b * width
 one_behind width a b less = grind arith
 
@@ -23,7 +23,7 @@ length-between list from to order inside = omega (arith, length-take (to - from)
 pub get_or-range : (list : List ℕ) (at count k : ℕ) → k < count → get_or (slice_range list at (at + count)) k 0 ≡ get_or list (at + k) 0
 get_or-range list at count k low = get_or-take (at + count - at) (drop at list) k 0 (omega arith) ∙ get_or-drop at list k 0
 
--- a range, and the one behind it
+-- a range, and the one after it
 pub next_range : (list : List ℕ) (at done count : ℕ) → at + (done + count) ≤ length list
     → slice_range list at (at + done) ++ slice_range list (at + done) (at + done + count) ≡ slice_range list at (at + (done + count))
 next_range list at done count fits =
