@@ -8,7 +8,7 @@ use Rattle.hex.proofs.HexLemmas.{IsDigits-upper_digits}
 abbrev pub digit : ℕ → ℕ
 digit place = slice_index upper_digits place
 
--- behind its last digit the table has the byte 0
+-- after its last digit the table has the byte 0
 none_behind : (place : ℕ) → 16 ≤ place → digit place ≡ 0
 none_behind place behind = get_or-eq_default upper_digits 0 behind
 

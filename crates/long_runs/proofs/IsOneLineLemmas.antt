@@ -85,7 +85,7 @@ note_line note.Call = words_line (codes "* call") refl
 note_line note.Barred = words_line (codes "* barred") refl
 note_line note.Busy = words_line (codes "* busy") refl
 
--- words and a number behind a line
+-- words and a number after a line
 with_count : (front words : List ℕ) (count : ℕ) → has_no_end words ≡ true → IsOneLine front → IsOneLine (front ++ words ++ decimal count)
 with_count front words count e line = one_line-append (front ++ words) (decimal count) (one_line-append front words line (words_line words e)) (decimal_line count)
 

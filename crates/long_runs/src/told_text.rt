@@ -27,7 +27,7 @@ impl ToldText {
         ToldText {}
     }
 
-    /// The text with a part behind it.
+    /// The text with a part after it.
     #[inline(always)]
     pub fn then(&self, _part: &Part<'_>) -> ToldText
         ensures { result.bytes ≡ self.now.bytes ++ _part.now.bytes.now }

@@ -68,7 +68,7 @@ impl Walk {
         } else {
             match self.head.push(byte) {
                 Ok(()) => {}
-                // What comes behind the head makes no difference.
+                // What comes after the head makes no difference.
                 Err(Full) => {}
             }
         }
