@@ -164,7 +164,7 @@ module _ (entries : List ℕ) (many : length entries ≡ 1011) (small : (k : ℕ
   low_is : (piece : Piece) (image : List ℕ) → inner_piece entries piece ≡ piece → data_of piece image ≡ patched piece.place piece.bytes image
   low_is piece image is = ap (λ (p : Piece). patched p.place p.bytes image) is
 
-  -- behind the map nothing changes
+  -- after the map nothing changes
   pub behind_map : (pieces : List Piece) (image : List ℕ) → AreUsable pieces 65536 → length image ≡ 71680 → (k : ℕ) → 2854 ≤ k → get_or (applied (inner pieces) image) k 0 ≡ get_or image k 0
   behind_map [] image usable long k high = refl
   behind_map (piece ∷ pieces) image usable long k high =

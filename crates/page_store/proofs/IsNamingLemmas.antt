@@ -1,4 +1,4 @@
--- A map that is read, entry by entry, and the pages that it names.
+-- A map that is read, entry by entry, and the pages that it names. It has 1,011 entries (`MAPPED`), and the device 1,120 pages (`PAGE_COUNT`).
 use Rattle.std.proofs.Common.{get_or, set, ◌≡◌, ℕ, ◌+◌, ◌-◌, ◌*◌, ◌<◌, ◌≤◌, Bool, true, false, not, ◌||◌, ◌&&◌, ◌==◌, cond, if◌then◌else◌, List, [], ◌∷◌, ◌++◌, length, take, refl, sym, ◌∙◌, ap, subst, inl, inr, ⊎_elim, arith}
 use Rattle.std.specs.List.{range_with_len, filter}
 use Rattle.std.proofs.lemmas.Bool.{cases_eq, cases_lt, cases_Bool, and_parts, and_left, ne_eqb, eq-eqb, or_right}

@@ -21,7 +21,7 @@ is_touched pieces page = list_any (touches page) pieces
 abbrev pub bytes_of_page : List ℕ → ℕ → List ℕ
 bytes_of_page held page = slice_range held (PAGE_LENGTH * page) (PAGE_LENGTH * page + PAGE_LENGTH)
 
--- the first page that a piece touches, and the one behind the last
+-- the first page that a piece touches, and the one after the last
 abbrev pub first_page : Piece → ℕ
 first_page piece = piece.place / PAGE_LENGTH
 

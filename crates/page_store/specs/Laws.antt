@@ -32,7 +32,7 @@ pub length-content_of : (image : List ℕ) → length (content_of image) ≡ 655
 unfolding content_of
 length-content_of image = length_if (is_well_formed (map_of image)) (map_of image) image
 
--- a map that is well formed ends behind the own bytes
+-- a map that is well formed ends after the own bytes
 last_entry : (image : List ℕ) → get_or (map_of image) 1010 0 ≡ number_at (slice_range image 832 2854) 2020
 unfolding entries_of
 last_entry image = get_or-map-range_with_len (λ k. number_at (slice_range image 832 2854) (2 * k)) 0 1011 1010 1010 0 (omega arith) (zero-add 1010)

@@ -18,6 +18,7 @@ entries_of bytes = map (λ k. number_at bytes (2 * k)) (range_with_len 0 MAPPED)
 abbrev pub map_of : List ℕ → List ℕ
 map_of image = entries_of (slice_range image MAP MAP_END)
 
+-- a page in which one of the content may lie: from 45 to the end of the device
 abbrev pub is_in_pool : ℕ → Bool
 is_in_pool page = nat_le POOL page && nat_lt page PAGE_COUNT
 

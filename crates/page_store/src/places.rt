@@ -23,7 +23,7 @@ pub const MAPPED: usize = PAGES - FIRST_MAPPED;
 /// The place of the map, which has two bytes for each page that it names.
 pub const MAP: usize = OWN_END;
 
-/// The first byte behind the map.
+/// The first byte after the map.
 pub const MAP_END: usize = MAP + 2 * MAPPED;
 
 /// The first page of the pool, in which the mapped pages lie. It goes to the end of the device.
