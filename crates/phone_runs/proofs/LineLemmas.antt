@@ -1,4 +1,4 @@
--- From one line behind `start` to the next, and why the lines end there.
+-- From one line after `start` to the next, and why the lines end there.
 use Rattle.std.proofs.Common.{◌≡◌, ℕ, true, List, [], ◌∷◌, ◌++◌, reverse, Option, Some, sym, ap, ◌∙◌, subst}
 use Rattle.std.proofs.lemmas.List.{append-nil, append_assoc, reverse-append}
 use Rattle.std.proofs.lemmas.List.Elements.{All-nil, All-push}
@@ -147,7 +147,7 @@ ends_amid text opening given left step_end.ResetFailed why now is stops = subst 
 
 -- ---- where no more are read
 
--- the lines end behind those that were read
+-- the lines end after those that were read
 pub ends_serving : (text : List ℕ) (opening : List ScriptLine) (given : Beginning) (script : ScriptReader) (left left_then : Option (List ℕ)) (end : PlayEnd) (phone : Kept) (parts : CardParts) (taken : Option (List ℕ)) (waiting : Plan)
     → ((found : LineList) → Follows text found script left → StopsReading may_be_heard text found left_then end)
     → IsServing text opening given script left phone (moment parts taken waiting) → PhoneEnds text opening given left_then end (moment parts taken waiting)

@@ -32,7 +32,7 @@ use Rattle.phone_runs.specs.Settling.{Rests}
 
 -- ---- where the run goes on
 
--- one line behind those that were told
+-- one line after those that were told
 told_more : (back : List PhoneLine) (line : HandsetLine) (others : List HandsetLine) → reverse (Hears line ∷ back) ++ all_heard others ≡ reverse back ++ all_heard (line ∷ others)
 told_more back line others =
     ap (λ (told : List PhoneLine). told ++ all_heard others) (reverse-append (Hears line ∷ []) back) ∙ append_assoc (reverse back) (Hears line ∷ []) (all_heard others)

@@ -149,7 +149,7 @@ calm_back front back calm = (back_of NotFailed front back calm.0, back_of NotCut
 no_cut : (items : List TraceItem) → IsCalm (item.Cut ∷ items) → ⊥
 no_cut items calm = let first = All-head NotCut item.Cut items calm.1 in cc
 
--- this is to come behind a log, on a card that stands so, and nothing is disturbed in it
+-- this is to come after a log, on a card that stands so, and nothing is disturbed in it
 pub record Onward (log : List Event) (old : Machine) (later : List Event) (now : Machine) : Type 0 where
   pub follows : Follows log later
   pub run : GoesOn old (steps_on log later) (items_on later) now
@@ -213,7 +213,7 @@ reset_on log old now later on = by_step on.run.first where
 
 -- ---- a command and its answer
 
--- a command shows its own line, and one behind it
+-- a command shows its own line, and one after it
 pub record ShowsTwo (apdu : List ℕ) (items : List TraceItem) : Type 0 where
   pub shown : TraceItem
   pub seen : items ≡ item.Command apdu ∷ shown ∷ []
@@ -244,7 +244,7 @@ pub record IsReplied (old : Machine) (command : Command) (log : List Event) (eve
   pub moves : Moves old (step.Apdu (apdu_of command)) (item.Command (apdu_of command) ∷ shown_by event ∷ []) (event ∷ Happens (Sent command) ∷ log) later now
 
 module _ (log : List Event) (old now : Machine) (command : Command) (later : List Event) where
-  -- of what comes behind the command, its answer is first
+  -- of what comes after the command, its answer is first
   replied_by : (event : Event) → (on : Onward log old (Happens (Sent command) ∷ event ∷ later) now) → event_of (shown_by event) ≡ Some event
       → items_on (event ∷ later) ≡ shown_by event ∷ items_on later → steps_on (Happens (Sent command) ∷ log) (event ∷ later) ≡ steps_on (event ∷ Happens (Sent command) ∷ log) later
       → IsReplied old command log event later now
@@ -287,7 +287,7 @@ sent_alone log old now command on =
     let behind : [] ≡ two.shown ∷ on.run.back = ap tail_of (on.run.seen ∙ ap (λ front. front ++ on.run.back) two.seen) in
     cc
 
--- ---- an answer comes behind a command alone
+-- ---- an answer comes after a command alone
 
 abbrev begins : TraceItem → Bool
 begins (item.Answer body status) = false
@@ -381,7 +381,7 @@ same_lines (Plans plan) f g same = ap tail_of same
 
 -- ---- two runs
 
--- the same comes, and the same card stands behind it
+-- the same comes, and the same card stands after it
 abbrev AreOne : List Event → List Event → Machine → Machine → Type 0
 AreOne later others now left = (later ≡ others) × (now ≡ left)
 

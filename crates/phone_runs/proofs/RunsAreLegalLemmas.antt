@@ -7,7 +7,7 @@ use Rattle.run_steps.proofs.ViewLemmas.{run_shown}
 use Rattle.phone_runs.specs.Laws.{RunsAreBegun, RunsAreLegal, RunsAreOfTheCard}
 use Rattle.phone_runs.specs.Logs.{Event, Happens, Plans, PhoneLine, Hears, Arms, heard, history, log_lines, lines_back, shown, steps, trace}
 
--- what is heard of lines and of others behind them
+-- what is heard of lines and of others after them
 heard-append : (first more : List PhoneLine) → heard (first ++ more) ≡ heard first ++ heard more
 heard-append [] more = refl
 heard-append (Hears line ∷ first) more = ap (λ rest. line ∷ rest) (heard-append first more)

@@ -42,7 +42,7 @@ use Rattle.phone_runs.specs.Runs.{Beginning, BreaksIn, BreaksInStep, BreaksSo, R
 use Rattle.phone_runs.specs.Settling.{IsAt, Reaches}
 use Rattle.phone_runs.specs.Serving.{replied, reset_by}
 
--- ---- traces behind traces
+-- ---- traces after traces
 
 pub seen-append : (one more : List TraceEntry) → items_seen (one ++ more) ≡ items_seen one ++ items_seen more
 seen-append [] more = refl

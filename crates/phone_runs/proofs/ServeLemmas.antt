@@ -164,7 +164,7 @@ note_more ending old mid found note asking is served =
     let shows = note_so old mid found note served.history asking is served.keeps in
     served_more old mid served.history (Noted note ∷ served.history) served.keeps (note_keeps old mid found note served.history asking shows served.keeps) (noted_next ending served.history note served.orderly shows)
 
--- ---- one thing behind others
+-- ---- one thing after others
 
 pub reaches_again : (given : Beginning) (told other : List PhoneLine) (phone : Kept) (now : Moment) → other ≡ told → Reaches given other phone now → Reaches given told phone now
 reaches_again given told other phone now same reached = subst (λ t. Reaches given t phone now) same reached

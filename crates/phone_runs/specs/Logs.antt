@@ -12,6 +12,7 @@ use Rattle.handset_model.specs.Sending.{apdu_of}
 use Rattle.handset_model.specs.declared.known.Duty.{Duty}
 use Rattle.handset_model.specs.declared.known.Duty.TheVariants.{Rest, ResetCard}
 
+-- one thing of a run
 pub data Event : Type 0 where
   -- something happened at the handset
   Happens : Happened → Event
@@ -58,12 +59,15 @@ AreInTurn (Plans plan ∷ log) = (asked (history log) ≡ Rest) × AreInTurn log
 
 -- ---- the same from the first to the last
 
+-- the lines of the script, in their order
 abbrev pub log_lines : List Event → List PhoneLine
 log_lines log = reverse (lines_back log)
 
+-- the steps of the card, in their order
 abbrev pub steps : List Event → List Step
 steps log = reverse (steps_back log)
 
+-- the trace of the run: what the card did, and the notes of the handset among it
 abbrev pub trace : List Event → List TraceEntry
 trace log = reverse (entries_of (history log))
 

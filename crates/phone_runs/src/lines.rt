@@ -1,4 +1,4 @@
-//! A line of a script behind `start`, read, and carried out by a handset that serves the card.
+//! A line of a script after `start`, read, and carried out by a handset that serves the card.
 ghost use Rattle.std.specs.Prelude.{◌≡◌, List, ℕ, Err, OnOk};
 ghost use Rattle.byte_streams.specs.Reading.{IsWithin};
 ghost use Rattle.script_form.specs.declared.lines.ScriptLine.{ScriptLine as AnyLine};
@@ -20,7 +20,7 @@ use script_reader::{PlayEnd, ScriptReader, read_behind};
 use store_form::Store;
 use terminal_side::Phone;
 
-/// Reads the next line behind `start` into `line`, and carries it out, as soon as its end was read. What the handset sends goes to the
+/// Reads the next line after `start` into `line`, and carries it out, as soon as its end was read. What the handset sends goes to the
 /// card by the carrier, and the trace is the same over each. It takes no memory.
 pub fn serve_line<S: Store, B: Applet, R: Source, W: Sink>(
     script: &mut ScriptReader,

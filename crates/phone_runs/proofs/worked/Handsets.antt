@@ -110,7 +110,7 @@ after_response = (answer after_fetch respond).state
 abbrev steps : List Step
 steps = step.Apdu (apdu_of sent.SelectMf) ∷ step.Apdu (apdu_of sent.SendProfile) ∷ step.Apdu (apdu_of (sent.Fetch 16)) ∷ step.Apdu respond ∷ []
 
--- what is seen of a command that the card answers so, and of the steps behind it
+-- what is seen of a command that the card answers so, and of the steps after it
 exchange : (old : CardState) (apdu body : List ℕ) (status : StatusWord) (more : List Step) (back : List TraceItem) (new : Machine) → (answer old apdu).body ≡ body → (answer old apdu).status ≡ status
     → IsRun (powered (answer old apdu).state) more back new → IsRun (powered old) (step.Apdu apdu ∷ more) (item.Command apdu ∷ item.Answer body status ∷ back) new
 exchange old apdu body status more back new body_is status_is rest = inl (record {
@@ -147,7 +147,7 @@ served : AreServed (items_seen trace)
 unfolding apdu_of
 served = ((λ is. absurd (false≢true is)), ((λ is. absurd (false≢true is)), ((λ is. inl refl), ((λ is. inl refl), tt))))
 
--- and these are not: a FETCH that is refused, and one behind which nothing comes
+-- and these are not: a FETCH that is refused, and one after which nothing comes
 not_served : (AreServed (item.Command (apdu_of (sent.Fetch 16)) ∷ item.Answer [] CONDITIONS_NOT_SATISFIED ∷ []) → ⊥) × (AreServed (item.Command (apdu_of (sent.Fetch 16)) ∷ []) → ⊥)
 unfolding apdu_of
 not_served = ((λ is. refused (is.0 refl)), (λ is. is.0 refl))

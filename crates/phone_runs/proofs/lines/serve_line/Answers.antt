@@ -1,4 +1,4 @@
--- A line does nothing, is out of place, or is told the handset: each goes on from the lines served, or says behind which of them it ends.
+-- A line does nothing, is out of place, or is told the handset: each goes on from the lines served, or says after which of them it ends.
 use Rattle.script_reader.proofs.BehindLemmas.{bad_behind}
 use Rattle.phone_runs.specs.Lines.{may_be_heard}
 use Rattle.phone_runs.specs.Playing.{line_of}
