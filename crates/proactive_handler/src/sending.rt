@@ -53,7 +53,7 @@ impl Session {
     }
 
     /// The applet on this shelf sent a command, which is admitted. Where it was resumed by the response to its command
-    /// before, this one becomes outstanding at once; otherwise it goes behind those that wait, of which there are at most 31.
+    /// before, this one becomes outstanding at once; otherwise it goes after those that wait, of which there are at most 31.
     pub(crate) fn send(&mut self, shelf: Shelf, is_resumed: bool, command: &Proactive)
         requires sendable { CanBeSent command.now }
         requires room { is_resumed ≡ false → length self.old.waiting < Waiting.MOST }
@@ -66,7 +66,7 @@ impl Session {
         }
     }
 
-    /// An event came for the applet on this shelf while it waits for an answer. It goes behind those that came late before,
+    /// An event came for the applet on this shelf while it waits for an answer. It goes after those that came late before,
     /// of which there are at most 15.
     pub(crate) fn keep_late(&mut self, shelf: Shelf, code: u8, body: &Octets)
         requires { length self.old.late < late_places }

@@ -1,4 +1,5 @@
-//! Where a run goes on.
+//! What stays the same while one applet runs (`Setting` of `toolkit_model`). `running` makes it as the run begins; whether a command is
+//! admitted, and what an act does, is told by it.
 
 use terminal_profile::Profile;
 use uicc_types::Shelf;

@@ -173,7 +173,7 @@ impl Session {
     /// An event for the applets on these shelves, one after the other: each runs on it that is idle. Where the event is one that
     /// an envelope brought, it is kept for those that wait for an answer, and otherwise these are not told of it. Answers the last
     /// answer to call control that they gave, none where they gave none. The boxes on all other shelves are left as they are, also
-    /// where a commit meets a fault; then those of applets too that took no turn before it, as those behind the one that met it.
+    /// where a commit meets a fault; then those of applets too that took no turn before it, as those after the one that met it.
     ///
     /// The shelves are different ones, with rows; there is room among the late triggers for each that is kept.
     ///

@@ -1,4 +1,4 @@
--- An idle applet runs, a waiting one has the event kept or misses it; in each case the shelves behind it still have their places.
+-- An idle applet runs, a waiting one has the event kept or misses it; in each case the shelves after it still have their places.
 use Rattle.std.proofs.Common.{refl, sym, ap, ◌∙◌, subst, Bool, false, rules}
 use Rattle.std.proofs.lemmas.Result.{IfOk-weaker}
 use Rattle.card_state.specs.Memory.{memory}

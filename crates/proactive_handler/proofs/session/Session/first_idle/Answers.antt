@@ -1,3 +1,5 @@
+-- A trigger that is read from the queue at a place is the one that the session, as clauses see it, has there: so its applet is idle just
+-- where the walk finds that.
 use Rattle.std.proofs.Common.{◌≡◌, ◌<◌, ap, sym, ◌∙◌, subst, List, length, Some, arith, option_map, slice_get}
 use Rattle.toolkit_model.specs.Sessions.{LateTrigger, SessionState}
 use Rattle.toolkit_model.specs.Orderly.{asks}
