@@ -60,7 +60,7 @@ impl CaseDraft {
         })
     }
 
-    /// Takes one more line. Behind a mistake all others are passed over.
+    /// Takes one more line. After a mistake all others are passed over.
     fn read(&mut self, line: usize, text: &str) -> Result<(), AllocError> {
         if self.case.mistake.is_some() {
             return Ok(());
@@ -91,7 +91,7 @@ impl CaseDraft {
         }
     }
 
-    /// Takes a line that stands before, between or behind the runs.
+    /// Takes a line that stands before, between or after the runs.
     fn set(&mut self, word: &str, rest: &str) -> Result<(), Fault> {
         match (word, rest) {
             ("#run", words) => return self.begin(words),

@@ -1,4 +1,4 @@
-//! Reads the lines of a run, from the one behind `#run` to `#status`.
+//! Reads the lines of a run, from the one after `#run` to `#status`.
 
 use crate::cases::ScriptRun;
 use crate::expectations::{Expectation, Shown, When, alternatives_of};
@@ -12,9 +12,9 @@ pub struct RunDraft {
     pub run: ScriptRun,
     /// Whether the script has ended, so that only expectations follow.
     is_over: bool,
-    /// How the trace shows the command that was read last, while nothing was expected behind it.
+    /// How the trace shows the command that was read last, while nothing was expected after it.
     command: Option<String>,
-    /// When that is shown which is expected next, behind the line read last.
+    /// When that is shown which is expected next, after the line read last.
     when: When,
 }
 
@@ -115,7 +115,7 @@ impl RunDraft {
         }
     }
 
-    /// One of the lines in this text is expected. Directly behind a command, its own line is understood before an answer or a loss of
+    /// One of the lines in this text is expected. Directly after a command, its own line is understood before an answer or a loss of
     /// power.
     fn expect(&mut self, alloc: Global, when: When, text: &str) -> Result<(), Fault> {
         let alternatives = alternatives_of(alloc, text)?;

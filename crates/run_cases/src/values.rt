@@ -1,10 +1,10 @@
-//! The values that stand behind the words of a case.
+//! The values that stand after the words of a case.
 
 use crate::cases::{Boxes, Patch};
 use crate::faults::Fault;
 use std::alloc::{AllocError, Global};
 
-/// The first word of a line, and what stands behind it.
+/// The first word of a line, and what stands after it.
 pub fn first_word(line: &str) -> (&str, &str) {
     line.split_once(' ').unwrap_or((line, ""))
 }
@@ -49,7 +49,7 @@ pub fn patch_of(alloc: Global, text: &str) -> Result<Patch, Fault> {
     })
 }
 
-/// The boxes that the words behind `#boxes` name.
+/// The boxes that the words after `#boxes` name.
 pub fn boxes_of(alloc: Global, text: &str) -> Result<Boxes, Fault> {
     match text {
         "all" => Ok(Boxes::All),
