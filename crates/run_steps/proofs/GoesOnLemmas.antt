@@ -1,4 +1,4 @@
--- Runs behind runs, and what is seen of them.
+-- Runs after runs, and what is seen of them.
 use Rattle.std.proofs.Common.{◌≡◌, Bool, true, List, [], ◌∷◌, ◌++◌, refl, sym, ap, ◌∙◌, append_assoc, subst, inl, inr, append-nil}
 use Rattle.std.proofs.lemmas.List.Concat.{flat_map-append}
 use Rattle.uicc_types.specs.declared.runs.Step.{Step}
@@ -13,7 +13,7 @@ run_same : (old new : Machine) (more : List Step) (none items : List TraceItem) 
 run_same old new more none items middle nothing same run =
     subst (λ m. GoesOn m more (none ++ items) new) same (subst (λ shown. GoesOn middle more (shown ++ items) new) (sym nothing) run)
 
--- one run behind another
+-- one run after another
 pub run_then : (first more : List Step) (old middle new : Machine) (items others : List TraceItem) → GoesOn old first items middle → GoesOn middle more others new → GoesOn old (first ++ more) (items ++ others) new
 run_then [] more old middle new items others run rest = run_same old new more items others middle run.seen run.stays rest
 run_then (step ∷ first) more old middle new items others run rest = record {
@@ -48,7 +48,7 @@ run_of (step ∷ more) first now items run = inl (record {
   seen = run.seen;
 })
 
--- and so it is with a step behind it that is the last
+-- and so it is with a step after it that is the last
 run_ends_same : (old middle new : Machine) (step : Step) (none items : List TraceItem) → none ≡ [] → middle ≡ old → StepEnds middle step items new → IsRun old (step ∷ []) (none ++ items) new
 run_ends_same old middle new step none items nothing same ends =
     inr (refl, subst (λ m. StepEnds m step (none ++ items) new) same (subst (λ i. StepEnds middle step (i ++ items) new) (sym nothing) ends))
@@ -82,7 +82,7 @@ shows_then (step ∷ first) more on between after items others may rest = record
 pub shows_one : (on after : Bool) (step : Step) (items : List TraceItem) → MayShow on step items after → MayShowAll on (step ∷ []) items after
 shows_one on after step items may = record { front = items; between = after; back = []; first = may; rest = (refl, refl); seen = sym (append-nil items) }
 
--- the text of one trace behind another
+-- the text of one trace after another
 pub text_of-append : (shown more : List TraceItem) → text_of (shown ++ more) ≡ text_of shown ++ text_of more
 text_of-append shown more = flat_map-append item_text shown more
 

@@ -236,7 +236,7 @@ pub rests_back : (card : CardView) (items : List TraceItem) (shown : TraceItem) 
 rests_back (TheCard machine) items shown from sent after same last some rests = λ nothing calm. same ∙ rests (last calm)
 rests_back (ItsPower on) items shown from sent after same last some rests = tt
 
--- a step that was taken, with a plan set before it and taken back behind it: its last line was written, or the sink failed in that
+-- a step that was taken, with a plan set before it and taken back after it: its last line was written, or the sink failed in that
 module _ (old : CardView) (step : Step) (whole : List TraceItem) (shown : TraceItem) (from set sent after : End) (taken mid now : Option (List ℕ)) (plans : PlansAreCounted)
     (showed : Showed old step (whole ++ shown ∷ []) shown sent.parts) (with_it : WithPlan from set sent after) (counts : IsCounted from.parts.meter after.parts.meter (armed_after from.waiting (step ∷ [])) (whole ++ shown ∷ []))
     (waits : waiting_after from.waiting (step ∷ []) ≡ NONE) (last : ends_calm (whole ++ shown ∷ []) ≡ true → is_calm shown ≡ true) (some : whole ++ shown ∷ [] ≡ [] → ⊥)

@@ -1,4 +1,4 @@
--- Steps behind steps, by what is known of the card before them.
+-- Steps after steps, by what is known of the card before them.
 use Rattle.std.proofs.Common.{◌≡◌, Bool, List, [], ◌∷◌, ◌++◌, refl, sym, subst}
 use Rattle.uicc_types.specs.declared.runs.Step.{Step}
 use Rattle.uicc_types.specs.declared.runs.TraceItem.{TraceItem}
@@ -53,7 +53,7 @@ run_failed first step (TheCard old) (ItsPower between) (ItsPower after) items la
 run_failed first step (ItsPower on) (TheCard middle) (TheCard new) items last none ends = absurd none
 run_failed first step (ItsPower on) (TheCard middle) (ItsPower after) items last none ends = absurd none
 
--- no box is to be woken behind them, where none was before
+-- no box is to be woken after them, where none was before
 pub rests_then : (old new : CardView) (steps : List Step) (own more : List TraceItem) (was_due is_due : Bool) → StepsShow old steps more new → Rests old own was_due → RestsOn new more was_due is_due → Rests new (own ++ more) is_due
 rests_then (TheCard old) (TheCard new) steps own more was_due is_due run before now = λ calm. now (λ none. before (calm_before own more none calm)) (calm_behind own more calm)
 rests_then (ItsPower on) (ItsPower after) steps own more was_due is_due run before now = tt

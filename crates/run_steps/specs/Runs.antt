@@ -20,6 +20,7 @@ line_of item.Off = line.Off
 line_of item.Reset = line.Reset
 line_of item.EepromFailed = line.EepromFailed
 
+-- the text of the line that shows an item
 abbrev pub item_text : TraceItem → List ℕ
 item_text item = trace_text (line_of item)
 
