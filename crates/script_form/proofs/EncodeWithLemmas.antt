@@ -12,7 +12,7 @@ pub encode_none : (t front : List ℕ) → front ++ encode_with t [] ≡ front
 unfolding encode_with
 encode_none t front = append-nil front
 
--- the digits of two lists of bytes stand one behind the other
+-- the digits of two lists of bytes stand one after the other
 pub encode_with-append : (t first second : List ℕ) → encode_with t (first ++ second) ≡ encode_with t first ++ encode_with t second
 unfolding encode_with
 encode_with-append t [] second = refl

@@ -1,4 +1,4 @@
--- Lines with a command or a text, which is all that stands behind their first words.
+-- Lines with a command or a text, which is all that stands after their first words.
 use Rattle.std.proofs.Common.{◌≡◌, ℕ, true, false, List, [], ◌∷◌, length, take, drop, Option, Some, None, Ok, refl, sym, ap, ◌∙◌, ◌+◌, ◌-◌, ◌≤◌, ◌==◌, get_or, subst, codes, arith, position}
 use Rattle.std.specs.Prelude.{⊤}
 use Rattle.std.specs.List.{join_with_byte}
@@ -72,7 +72,7 @@ form_command digits all line left f =
     sym left ∙ f.parted ∙ ap (λ (others : List (List ℕ)). f.word ∷ others) f.rest.none_left in
     record { bytes = f.value; hex = rw (← only_word digits f.word one) f.first; is = f.rest.is }
 
--- what is read from the digits is what the words behind the keyword say
+-- what is read from the digits is what the words after the keyword say
 pub reads_form : (digits : List ℕ) (all : List (List ℕ)) → all ≡ words digits → (r : Option ⊤) (line : ScriptLine)
     → ReadsInto (IsCommandLine digits) r line → ReadsInto (form_of keyword.Apdu all) r line
 reads_form digits all left (Some done) line o = record {
@@ -125,7 +125,7 @@ reads_transfer digits bytes line is (Some done) o = record {
 }
 reads_transfer digits bytes line is None none = λ other c. none c.bytes c.hex
 
--- no text stands behind the last word of a line
+-- no text stands after the last word of a line
 pub no_typing : (all : List (List ℕ)) → all ≡ [] → (line : ScriptLine) → IsTyping all line → ⊥
 no_typing all none line typing = words_some typing.text (sym typing.behind ∙ none)
 
@@ -148,7 +148,7 @@ typing_read rest text all left typed =
 
 -- ---- the word `apdu` and a space at the front of a line
 
--- the words of such a line are `apdu` and those of what stands behind the space
+-- the words of such a line are `apdu` and those of what stands after the space
 words_behind : (digits : List ℕ) → words (97 ∷ 112 ∷ 100 ∷ 117 ∷ 32 ∷ digits) ≡ codes "apdu" ∷ words digits
 unfolding words
 words_behind digits = refl
@@ -211,7 +211,7 @@ begins (first ∷ second ∷ []) long one two three four five = absurd (omega (a
 begins (first ∷ []) long one two three four five = absurd (omega (arith, long))
 begins [] long one two three four five = absurd (omega (arith, long))
 
--- a command behind the word is the line's
+-- a command after the word is the line's
 pub reads_line : (line digits : List ℕ) → line ≡ 97 ∷ 112 ∷ 100 ∷ 117 ∷ 32 ∷ digits → length line ≤ LONGEST_LINE → (r : Option ⊤) (value : ScriptLine)
     → ReadsInto (IsCommandLine digits) r value → ReadsInto (IsLine line) r value
 reads_line line digits is fits (Some done) value o = record {

@@ -1,4 +1,4 @@
--- The word of an access rule: what stands before its colon, and what behind it.
+-- The word of an access rule: what stands before its colon, and what after it.
 use Rattle.std.proofs.Common.{◌≡◌, ℕ, ◌+◌, ◌<◌, ◌≤◌, List, [], ◌∷◌, ◌++◌, length, take, get_or, Option, Some, None, refl, sym, ap, ◌∙◌, arith, codes}
 use Rattle.std.proofs.lemmas.List.{append_cancel_left, length-append, take_at}
 use Rattle.hex.proofs.HexLemmas.{decode_of-ok}
@@ -6,7 +6,7 @@ use Rattle.uicc_types.specs.declared.identifiers.FileId.{FileId}
 use Rattle.script_form.specs.Reads.{IsOnly}
 use Rattle.script_form.specs.Values.{IsNamedRule, IsRule, identifier_bytes}
 
--- a word is parted in one way behind its fourth byte
+-- a word is parted in one way after its fourth byte
 pub same_parts : (word front back file number : List ℕ) (first : ℕ) → word ≡ front ++ first ∷ back → word ≡ file ++ 58 ∷ number → length front ≡ 4 → length file ≡ 4
     → (front ≡ file) × (first ≡ 58) × (back ≡ number)
 same_parts word front back file number first one other four four_too =

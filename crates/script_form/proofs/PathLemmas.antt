@@ -1,4 +1,4 @@
--- Identifiers, one behind the other, against the paths that bytes may be.
+-- Identifiers, one after the other, against the paths that bytes may be.
 use Rattle.std.proofs.Common.{◌≡◌, ℕ, ◌+◌, ◌*◌, ◌<◌, ◌≤◌, suc, List, [], ◌∷◌, ◌++◌, length, sym, ap, subst, ◌∙◌, arith, refl, ◌/◌, ◌%◌, All, append-nil, length-append}
 use Rattle.uicc_types.specs.declared.identifiers.FileId.{FileId}
 use Rattle.script_form.specs.Reads.{IsOnly}
@@ -66,7 +66,7 @@ one_path bytes [] path so_far none some free = record {
     ends_there [] other is none = is ∙ append-nil path
     ends_there (identifier ∷ below) other is none = cc
 
--- a path whose bytes, and some behind them, are few enough has room for one more
+-- a path whose bytes, and some after them, are few enough has room for one more
 pub has_room : (bytes rest : List ℕ) (path : List FileId) (most : ℕ) → bytes ≡ path_bytes path ++ rest → length bytes ≤ 2 * most → 2 ≤ length rest → length path < most
 has_room bytes rest path most so_far few some =
     let both : length bytes ≡ length (path_bytes path) + length rest = ap length so_far ∙ length-append (path_bytes path) rest in

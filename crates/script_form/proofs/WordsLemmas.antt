@@ -12,7 +12,7 @@ use Rattle.script_form.specs.Words.{words, words_left}
 abbrev pub is_space : ℕ → Bool
 is_space byte = byte == 32
 
--- where there is a space, the words are what stands before it and the words of what stands behind it
+-- where there is a space, the words are what stands before it and the words of what stands after it
 pub words_at : (line : List ℕ) (at : ℕ) → position is_space line ≡ Some at
     → words line ≡ take at line ∷ words (take (length line - (at + 1)) (drop (at + 1) line))
 unfolding words

@@ -35,7 +35,7 @@ infixl 10 ◌>>=◌
 abbrev pub ◌>>=◌ : {X Y : Type 0} → (List ℕ → X → Type 0) → (X → List (List ℕ) → Y → Type 0) → List (List ℕ) → Y → Type 0
 First >>= Rest = Begins First Rest
 
--- what stands behind the letter of an EF with records
+-- what stands after the letter of an EF with records
 abbrev pub record_form : (ℕ → ℕ → Option ℕ → Option (FileId × ℕ) → ScriptLine) → List (List ℕ) → ScriptLine → Type 0
 record_form make = do
   length ← IsNumber 1 255
@@ -44,7 +44,7 @@ record_form make = do
   rule ← IsRule
   Ends (make length count short rule)
 
--- `ef PATH t SIZE SHORT RULE`, `ef PATH l LENGTH COUNT SHORT RULE`, the same with `c`: what stands behind the letter
+-- `ef PATH t SIZE SHORT RULE`, `ef PATH l LENGTH COUNT SHORT RULE`, the same with `c`: what stands after the letter
 abbrev pub file_form : List FileId → Structure → List (List ℕ) → ScriptLine → Type 0
 file_form path structure.Transparent = do
   size ← IsNumber 1 32767
@@ -54,14 +54,14 @@ file_form path structure.Transparent = do
 file_form path structure.Linear = record_form (Linear path)
 file_form path structure.Cyclic = record_form (Cyclic path)
 
--- `cut K N XX`, what stands behind K: so many bytes take their new value, and every other one takes XX
+-- `cut K N XX`, what stands after K: so many bytes take their new value, and every other one takes XX
 abbrev pub cut_whole : ℕ → List (List ℕ) → ScriptLine → Type 0
 cut_whole call = do
   kept ← IsNumber 0 64
   rest ← IsByte
   Ends (Cut (record { call = call; kept = kept; rest = rest }))
 
--- `cut K N XX`, or `cut K` for `cut K 0 FF`: what stands behind K
+-- `cut K N XX`, or `cut K` for `cut K 0 FF`: what stands after K
 abbrev pub cut_form : ℕ → List (List ℕ) → ScriptLine → Type 0
 cut_form call [] line = line ≡ Cut (record { call = call; kept = 0; rest = 0xFF })
 cut_form call (word ∷ others) line = cut_whole call (word ∷ others) line
@@ -78,14 +78,14 @@ pub record IsTransferLine (digits : List ℕ) (line : ScriptLine) : Type 0 where
   pub hex : IsHex LONGEST_COMMAND digits bytes
   pub is : line ≡ Tpdu bytes
 
--- `user type TEXT`: what stands behind `type` and a space is the text, with all its spaces
+-- `user type TEXT`: what stands after `type` and a space is the text, with all its spaces
 pub record IsTyping (all : List (List ℕ)) (line : ScriptLine) : Type 0 where
   pub text : List ℕ
   pub behind : all ≡ words text
   pub typed : IsTyped text text
   pub is : line ≡ UserType text
 
--- what stands behind the word for what the user does
+-- what stands after the word for what the user does
 abbrev pub user_form : UserAct → List (List ℕ) → ScriptLine → Type 0
 user_form user.Confirm = Ends UserOk
 user_form user.End = Ends UserEnd
@@ -101,7 +101,7 @@ user_form user.Dial = do
   digits ← IsDialled
   Ends (UserDial digits)
 
--- what stands behind the word for what the network does
+-- what stands after the word for what the network does
 abbrev pub network_form : NetworkAct → List (List ℕ) → ScriptLine → Type 0
 network_form network.Place = do
   place ← IsHex 32
@@ -115,7 +115,7 @@ network_form network.Lose = do
   channel ← IsNumber 1 7
   Ends (Lose channel)
 
--- what stands behind each keyword
+-- what stands after each keyword
 abbrev pub form_of : Keyword → List (List ℕ) → ScriptLine → Type 0
 form_of keyword.Df = do
   path ← IsPath

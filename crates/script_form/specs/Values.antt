@@ -145,7 +145,7 @@ pub record IsPath (word : List ℕ) (path : List FileId) : Type 0 where
   pub digits : IsHex LONGEST_PATH word (path_bytes path)
   pub free : All IsFree path
 
--- a short file identifier, 1 to 30 (ETSI TS 102 221, 8.2); a dash for none
+-- a short file identifier, 1 to 30 (ETSI TS 102 221, 8.4.3); a dash for none
 abbrev pub IsShort : List ℕ → Option ℕ → Type 0
 IsShort word None = word ≡ codes "-"
 IsShort word (Some short) = IsNumber 1 30 word short

@@ -7,7 +7,7 @@ use std::marker::Model;
 /// The words of a line that are still to be read.
 #[derive(Drop)]
 pub struct Words<'a> {
-    // What stands behind the last space that was passed; none once the last word was read.
+    // What stands after the last space that was passed; none once the last word was read.
     rest: Option<&'a [u8]>,
 }
 

@@ -31,7 +31,7 @@ fn path_in(bytes: &[u8]) -> Option<Path>
     Some(path)
 }
 
-/// The identifier at the front, if a file may have it, and the bytes behind it.
+/// The identifier at the front, if a file may have it, and the bytes after it.
 fn identifier_at(bytes: &[u8]) -> Option<(FileId, &[u8])>
     ensures shorter { IfSome result (λ found. length found.1.now + 2 ≡ length bytes.now) }
     ensures found { IfSome result (λ found. IsFree found.0 × (bytes.now ≡ identifier_bytes found.0 ++ found.1.now)) }
@@ -86,7 +86,7 @@ fn named_rule_of(word: &[u8]) -> Option<(FileId, u8)>
     Some((file, number))
 }
 
-/// What stands before and behind the colon, which is the fifth byte.
+/// What stands before and after the colon, which is the fifth byte.
 fn rule_parts(word: &[u8]) -> Option<(&[u8], &[u8])>
     ensures found { IfSome result (λ parts. (length parts.0.now ≡ 4) × (word.now ≡ parts.0.now ++ 58 ∷ parts.1.now)) }
     ensures only { (file number : List ℕ) → length file ≡ 4 → word.now ≡ file ++ 58 ∷ number

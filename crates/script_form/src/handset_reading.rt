@@ -32,7 +32,7 @@ pub fn user(words: &mut Words<'_>, line: &mut ScriptLine) -> Option<()>
     user_line(act, words, line)
 }
 
-/// What stands behind the word for what the user does.
+/// What stands after the word for what the user does.
 fn user_line(act: UserAct, words: &mut Words<'_>, line: &mut ScriptLine) -> Option<()>
     ensures { ReadsInto (user_form act words.old) result line.new }
 {
@@ -85,7 +85,7 @@ pub fn network(words: &mut Words<'_>, line: &mut ScriptLine) -> Option<()>
     network_line(act, words, line)
 }
 
-/// What stands behind the word for what the network does.
+/// What stands after the word for what the network does.
 fn network_line(act: NetworkAct, words: &mut Words<'_>, line: &mut ScriptLine) -> Option<()>
     ensures { ReadsInto (network_form act words.old) result line.new }
 {

@@ -40,7 +40,7 @@ pub fn put_note<const N: usize>(text: &mut ArrayVec<u8, N>, note: &Note)
     }
 }
 
-/// Puts words and a text as it is shown behind them into an empty buffer, with the end of the line.
+/// Puts words and a text as it is shown after them into an empty buffer, with the end of the line.
 fn put_shown<const N: usize>(text: &mut ArrayVec<u8, N>, words: &[u8], bytes: &[u8])
     requires empty { text.old.items ≡ [] }
     requires fits { length words.now + length bytes.now + 1 ≤ N }

@@ -79,7 +79,7 @@ fn statement(words: &mut Words<'_>, line: &mut ScriptLine) -> Option<()>
     form(keyword, words, line)
 }
 
-/// What stands behind the keyword.
+/// What stands after the keyword.
 fn form(keyword: Keyword, words: &mut Words<'_>, line: &mut ScriptLine) -> Option<()>
     ensures { ReadsInto (form_of keyword words.old) result line.new }
 {
@@ -122,7 +122,7 @@ fn file(words: &mut Words<'_>, line: &mut ScriptLine) -> Option<()>
     file_of(path, structure, words, line)
 }
 
-/// What stands behind the letter of the structure.
+/// What stands after the letter of the structure.
 fn file_of(
     path: Path,
     structure: Structure,
@@ -376,7 +376,7 @@ fn cut(words: &mut Words<'_>, line: &mut ScriptLine) -> Option<()>
     cut_at(call, words, line)
 }
 
-/// What stands behind the number of the call.
+/// What stands after the number of the call.
 fn cut_at(call: u32, words: &mut Words<'_>, line: &mut ScriptLine) -> Option<()>
     ensures { ReadsInto (cut_form call words.old) result line.new }
 {

@@ -302,7 +302,7 @@ fn write_counts<W: Sink>(
     sink.put(text.as_slice())
 }
 
-/// Adds words and a number behind them.
+/// Adds words and a number after them.
 fn put_count(text: &mut ArrayVec<u8, LONGEST>, words: &[u8], count: u64)
     requires { length text.old.items + length words.now + 20 ≤ LONGEST }
     ensures items { text.new.items ≡ text.old.items ++ words.now ++ decimal count }
@@ -312,7 +312,7 @@ fn put_count(text: &mut ArrayVec<u8, LONGEST>, words: &[u8], count: u64)
     put_text(text, Buffer::new().format(count).as_bytes());
 }
 
-/// Puts words and the digits of a number behind them into an empty buffer, with the end of the line.
+/// Puts words and the digits of a number after them into an empty buffer, with the end of the line.
 pub fn put_numbered<const N: usize>(text: &mut ArrayVec<u8, N>, words: &[u8], digits: &[u8])
     requires empty { text.old.items ≡ [] }
     requires fits { length words.now + length digits.now + 1 ≤ N }
