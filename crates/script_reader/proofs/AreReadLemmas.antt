@@ -6,7 +6,7 @@ use Rattle.script_form.specs.Reads.{IsOnly}
 use Rattle.script_form.specs.declared.lines.ScriptLine.{ScriptLine}
 use Rattle.script_reader.specs.Said.{AreRead, Each, Say}
 
--- lines behind lines
+-- lines after lines
 pub Each-append : (R : List ℕ → ScriptLine → Type 0) (found more : LineList) (said others : List ScriptLine) → Each R found said → Each R more others → Each R (found ++ more) (said ++ others)
 Each-append R [] more [] others first rest = rest
 Each-append R [] more (line ∷ said) others first rest = absurd first

@@ -1,4 +1,4 @@
--- Why no more lines are read behind `start`.
+-- Why no more lines are read after `start`.
 use Rattle.std.proofs.Common.{◌≡◌, ℕ, Bool, false, List, [], ◌∷◌, Option, Some, None, Err, sym, ◌∙◌, subst}
 use Rattle.byte_streams.specs.Lines.{LineList}
 use Rattle.script_form.specs.declared.lines.ScriptLine.{ScriptLine}

@@ -1,4 +1,4 @@
--- Why no more lines of a script are read behind `start`, whatever the card makes of them.
+-- Why no more lines of a script are read after `start`, whatever the card makes of them.
 use Rattle.std.specs.Prelude.{◌≡◌, ℕ, Bool, false, List, [], ◌∷◌, Option, Some, None, Result, Ok, Err}
 use Rattle.byte_streams.specs.Lines.{LineList}
 use Rattle.byte_streams.specs.Reading.{IsTextCutShort, IsReadOut}
@@ -31,7 +31,7 @@ end_for (fault.BadLine number) = BadLine number
 end_for (fault.NoRoom number) = BadLine number
 end_for fault.ReadFailed = ReadFailed
 
--- what the search for a line behind `start` comes to: it is in its place then, or no more lines are read
+-- what the search for a line after `start` comes to: it is in its place then, or no more lines are read
 abbrev pub GivesLine : (ScriptLine → Bool) → List ℕ → LineList → ScriptReader → Option (List ℕ) → ScriptLine → Result (Unit {0}) PlayEnd → Type 0
 GivesLine may text found script left line (Ok done) = Finds text found script left line
 GivesLine may text found script left line (Err end) = StopsReading may text found left end

@@ -1,4 +1,4 @@
-//! The lines of a script behind `start`.
+//! The lines of a script after `start`.
 ghost use Rattle.std.specs.Prelude.{◌≡◌, ◌≢◌, ◌<◌, ◌+◌, Bool, List, ℕ, Err, OnOk};
 ghost use Rattle.uicc_types.specs.Counts.{CountsFailure};
 ghost use Rattle.byte_streams.specs.Lines.{LineList};
@@ -28,7 +28,7 @@ pub enum PlayEnd {
     ResetFailed,
 }
 
-/// Reads the next line behind `start` into `line`. Where the script ends, goes on with a line in no form or can't be read on, it
+/// Reads the next line after `start` into `line`. Where the script ends, goes on with a line in no form or can't be read on, it
 /// answers that the run ends so.
 #[inline(always)]
 pub fn read_behind<R: Source>(
