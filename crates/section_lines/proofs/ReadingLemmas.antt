@@ -58,7 +58,7 @@ too_much cast text given card script left line number finds none is = record {
   reach = finds.reach;
 }
 
--- reading ends behind the lines of a section
+-- reading ends after the lines of a section
 pub ends : (cast : List (Option AppletState)) (first : Option Persistent) (text : List ℕ) (script : ScriptReader) (left left_then : Option (List ℕ)) (card : Option Persistent) (fault : ScriptFault)
     → ((given : LineList) → Follows text given script left → StopsAt cast text given card left_then fault) → InSection cast first text script left card → EndsInSection cast first text left_then fault
 ends cast first text script left left_then card fault cause section = record {

@@ -1,4 +1,4 @@
--- What the lines of a section come to, one behind the other.
+-- What the lines of a section come to, one after the other.
 use Rattle.std.proofs.Common.{◌≡◌, List, [], ◌∷◌, ◌++◌, Option, Result, Ok, Err, refl, ap, ◌∙◌}
 use Rattle.script_form.specs.declared.lines.ScriptLine.{ScriptLine}
 use Rattle.card_state.specs.Persistent.{Persistent}
@@ -6,7 +6,7 @@ use Rattle.card_state.specs.declared.faults.SectionFault.{SectionFault}
 use Rattle.applet_trait.specs.Minds.{AppletState}
 use Rattle.section_lines.specs.Script.{then_on, with_line, with_lines}
 
--- lines behind lines add to what the first ones come to
+-- lines after lines add to what the first ones come to
 then_same : (cast : List (Option AppletState)) (first rest : List ScriptLine) → ((card : Option Persistent) → with_lines cast card (first ++ rest) ≡ then_on (λ c. with_lines cast c rest) (with_lines cast card first))
     → (next : Result (Option Persistent) SectionFault) → then_on (λ c. with_lines cast c (first ++ rest)) next ≡ then_on (λ c. with_lines cast c rest) (then_on (λ c. with_lines cast c first) next)
 then_same cast first rest same (Err fault) = refl

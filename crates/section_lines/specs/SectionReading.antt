@@ -34,7 +34,7 @@ pub record IsTakenForLast (text : List ℕ) (given : LineList) (left : Option (L
   pub parted : given ≡ before ++ last ∷ []
   pub reach : IsTakenFor text before left
 
--- `start` was read behind them, and no more was taken than it needs, but for the rest of the last piece
+-- `start` was read after them, and no more was taken than it needs, but for the rest of the last piece
 pub record AtStart (cast : List (Option AppletState)) (first : Option Persistent) (text : List ℕ) (script : ScriptReader) (left : Option (List ℕ)) (card : Option Persistent) : Type 0 where
   pub section : List ScriptLine
   pub given : LineList
