@@ -12,7 +12,7 @@ use uicc_types::Plan;
 /// The first of a store's own bytes.
 pub const OWN_START: usize = 64;
 
-/// The first byte behind a store's own bytes.
+/// The first byte after a store's own bytes.
 pub const OWN_END: usize = 832;
 
 /// Why a call of a store was not carried out. After each, `recover` must answer Ok before anything else is asked.
