@@ -90,7 +90,7 @@ fn administered<S: Store>(
     }
 }
 
-/// Whether a card without files has none that is found, and room behind its entries.
+/// Whether a card without files has none that is found, and room after its entries.
 fn is_blank<S: Store>(store: &mut S, section: &Section) -> bool
     requires { S.byte_count store.old ≡ 65536 }
 {

@@ -134,7 +134,7 @@ fn one_apdu_is_passed_for_a_command(rt: HostRuntime) {
     assert!(rt; answer.body.as_slice() == b"\x00\x00".as_slice());
 }
 
-/// What a link answers to GET RESPONSE that keeps the data of a SELECT, behind a line of a handset whose commands go by `carrier`: the
+/// What a link answers to GET RESPONSE that keeps the data of a SELECT, after a line of a handset whose commands go by `carrier`: the
 /// same link, or none. None where something else failed.
 fn answered_behind<S: Store + Drop, B: Applet>(
     alloc: Global,

@@ -20,7 +20,7 @@ const UNREADABLE: Plan = Plan {
     read_fail: Some(1),
 };
 
-/// The status of a SELECT of the MF behind a reset in which the memory failed.
+/// The status of a SELECT of the MF after a reset in which the memory failed.
 fn answered_behind<S: Store + Drop, B: Applet>(
     alloc: Global,
     store: S,
