@@ -1,4 +1,4 @@
--- Command TPDUs of T=0: five bytes of header, the last of which, P3, counts the data that go over the line, and behind them the data
+-- Command TPDUs of T=0: five bytes of header, the last of which, P3, counts the data that go over the line, and after them the data
 -- that go to the card, if there are any (ISO 7816-3, protocol T=0; ETSI TS 102 221, 7.3.1.1).
 use Rattle.std.specs.Prelude.{ℕ, ◌==◌, ◌&&◌, ◌||◌, Bool, true, false, if◌then◌else◌, List, ◌∷◌, length, take, slice_index, Option, Some, None}
 use Rattle.t0_link.specs.declared.instructions.TheConstants.{GET_RESPONSE, READ_BINARY, READ_RECORD, FETCH, STATUS, MANAGE_CHANNEL}
