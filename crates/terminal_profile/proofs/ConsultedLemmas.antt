@@ -15,7 +15,7 @@ zeros zero at = refl
 zeros (suc count) zero = refl
 zeros (suc count) (suc at) = zeros count at
 
--- zeros behind a profile change no byte of it
+-- zeros after a profile change no byte of it
 filled : (count : ℕ) (profile : List ℕ) (at : ℕ) → get_or (profile ++ replicate count 0) at 0 ≡ get_or profile at 0
 filled count [] at = zeros count at
 filled count (byte ∷ rest) zero = refl
