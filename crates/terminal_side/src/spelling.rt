@@ -79,7 +79,7 @@ fn put_performed(objects: &mut TlvWriter, tag: u16, value: &[u8])
     put(objects, tag, value);
 }
 
-/// A byte, and the bytes behind it.
+/// A byte, and the bytes after it.
 fn prefixed(first: u8, rest: &[u8]) -> Octets
     requires { length rest.now < 255 }
     ensures { result ≡ first ∷ rest.now }
