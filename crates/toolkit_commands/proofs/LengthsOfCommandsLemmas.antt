@@ -38,7 +38,7 @@ long_tagged tag value less =
       | inr long ↦ rw (le-ltb (length value) 128 long, lt-ltb (length value) 256 less) (omega arith)
     ]
 
--- an object that is put behind others
+-- an object that is put after others
 pub length_put : (old : List ℕ) (tag : ℕ) (value : List ℕ) → length value < 128
     → length (old ++ tagged (128 + tag) value) ≡ length old + length value + 2
 length_put old tag value short =

@@ -41,7 +41,7 @@ module _ (tag first second old kind qualifier : ℕ) (others : List ℕ) where
         | inr long ↦ rw (le-ltb (length (with_number old)) 128 long, lt-ltb (length (with_number old)) 256 less) refl
       ]
 
--- the objects behind the details
+-- the objects after the details
 abbrev behind : Proactive → List ℕ
 behind command = spellings (required 2 (129 ∷ (row_of command).destination ∷ []) ∷ (row_of command).objects)
 

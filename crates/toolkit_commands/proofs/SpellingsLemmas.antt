@@ -1,4 +1,4 @@
--- What has no room has none with more behind it.
+-- What has no room has none with more after it.
 use Rattle.std.proofs.Common.{◌≡◌, ℕ, ◌+◌, ◌<◌, List, [], ◌∷◌, ◌++◌, length, map, take, drop, get_or, refl, sym, ap, ◌∙◌, append_assoc, append-nil, arith}
 use Rattle.std.proofs.lemmas.List.{length-append, take-append-drop, drop_more, map-append}
 use Rattle.comprehension_tlv.specs.Model.{Object}

@@ -38,8 +38,8 @@ not_empty (first ∷ others) = Some (first ∷ others)
 abbrev pub timer_number : ℕ → Option ℕ
 timer_number timer = if nat_le 1 timer && nat_le timer 8 then Some timer else None
 
--- by the tag of the template: the item of a menu selection (7.2), the address of a call (7.3.1), the code of an event, with the whole content (7.5),
--- or a timer that has expired (7.4)
+-- By the tag of the template: the item of a menu selection (7.2), the address of a call (7.3.1), the code of an event, with the whole content (7.5),
+-- or a timer that has expired (7.4). Other objects, which the standard has in each of these, may be missing.
 unfoldable pub envelope_in : ℕ → List ℕ → Option Envelope
 envelope_in tag content =
     if tag == MENU_SELECTION then byte_in ITEM_IDENTIFIER content >>= (λ item. Some (Menu item))

@@ -2,7 +2,7 @@
 -- the command details, which stand first in the template.
 use Rattle.std.specs.Prelude.{ℕ, ◌+◌, List, ◌∷◌, ◌++◌, take, drop, slice_index_or, ◌==◌, if◌then◌else◌}
 
--- where the number stands: behind the tag of the template, its length of one byte or two, and the tag and the length of
+-- where the number stands: after the tag of the template, its length of one byte or two, and the tag and the length of
 -- the details
 abbrev pub place_of_number : List ℕ → ℕ
 place_of_number bytes = if slice_index_or bytes 1 0 == 129 then 5 else 4

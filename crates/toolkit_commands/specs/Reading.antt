@@ -98,7 +98,8 @@ timer_said action list = do
   time ← if action == START then time_of (value TIMER_VALUE list) else Ok no_time
   Ok (TimerManagement action timer time)
 
--- type, qualifier, destination, the objects that have to be there, and what they say
+-- The commands as this card sends them: type, qualifier, destination, the objects that have to be there, and what they say. The standard
+-- lets a tone, or the title of a choice, be missing, and knows further qualifiers.
 abbrev pub type_table : List TypeRow
 type_table =
     type_row REFRESH any_one TERMINAL (always []) (λ mode list. Ok (Refresh mode))

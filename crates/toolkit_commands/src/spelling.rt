@@ -55,7 +55,7 @@ fn put(objects: &mut TlvWriter, tag: u16, value: &[u8]) -> Result<(), Full>
     objects.put(tag, true, value)
 }
 
-/// The same where the value is a byte and the bytes behind it.
+/// The same where the value is a byte and the bytes after it.
 fn put_behind(objects: &mut TlvWriter, tag: u16, first: u8, rest: &[u8]) -> Result<(), Full>
     requires low { 1 ≤ tag }
     requires high { tag ≤ 126 }

@@ -83,7 +83,7 @@ no_list : proactive_of (0xD0 ∷ 0x06 ∷ 0x81 ∷ 0x03 ∷ 0x01 ∷ 0x99 ∷ 0x
 unfolding proactive_of list_of command_among template_of value_at length_at tag_at object_at outline_at outline_within
 no_list = refl
 
--- all that the command needs, and behind it a tag without a length
+-- all that the command needs, and after it a tag without a length
 cut_short : proactive_of (0xD0 ∷ 0x12 ∷ 0x0D ∷ 0x02 ∷ 0x04 ∷ 0x48 ∷ 0x02 ∷ 0x02 ∷ 0x81 ∷ 0x02 ∷ 0x8D ∷ 0x00 ∷ 0x99 ∷ 0x00 ∷ 0x01 ∷ 0x03 ∷ 0x01 ∷ 0x21 ∷ 0x80 ∷ 0x8D ∷ []) ≡ Err Tlv
 unfolding proactive_of list_of command_among template_of value_at length_at tag_at object_at outline_at outline_within
 cut_short = refl
