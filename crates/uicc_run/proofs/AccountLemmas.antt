@@ -1,4 +1,4 @@
--- What is told of lines behind others, and the run of the card that it is.
+-- What is told of lines after others, and the run of the card that it is.
 use Rattle.std.proofs.Common.{◌≡◌, List, [], ◌∷◌, ◌++◌, Option, refl, sym, ap, ◌∙◌, append_assoc, subst, append-nil}
 use Rattle.uicc_types.specs.declared.answers.Answer.{Answer}
 use Rattle.uicc_types.specs.declared.runs.Step.{Step}
@@ -10,7 +10,7 @@ use Rattle.run_steps.specs.Tpdus.{CourseGives, steps_of}
 use Rattle.run_steps.specs.Views.{CardView, StepsShow}
 use Rattle.uicc_run.specs.Accounts.{Account, AreTold, Deed, IsTold, Takes, Transfers, joined, nothing}
 
--- ---- accounts behind accounts
+-- ---- accounts after accounts
 
 pub joined_nothing : (account : Account) → joined account nothing ≡ account
 joined_nothing account =
@@ -32,7 +32,7 @@ told_same more kept between after old middle new none account nothing_is same st
     subst (λ (a : Account). AreTold more kept old (joined a account) after new) (sym nothing_is)
     (subst (λ (k : Option Answer). AreTold more k old account after new) same (subst (λ (m : CardView). AreTold more between m account after new) stays told))
 
--- things are told behind others
+-- things are told after others
 pub told_then : (first more : List Deed) (kept between after : Option Answer) (old middle new : CardView) (one two : Account) → AreTold first kept old one between middle → AreTold more between middle two after new
     → AreTold (first ++ more) kept old (joined one two) after new
 told_then [] more kept between after old middle new one two told rest = told_same more kept between after old middle new one two told.account_is told.keeps told.stays rest

@@ -1,11 +1,11 @@
--- What lines behind others are for.
+-- What lines after others are for.
 use Rattle.std.proofs.Common.{◌≡◌, List, [], ◌∷◌, ◌++◌, ap, ◌∙◌, append-nil}
 use Rattle.std.proofs.lemmas.List.Concat.{flat_map-append}
 use Rattle.script_form.specs.declared.lines.ScriptLine.{ScriptLine}
 use Rattle.uicc_run.specs.Accounts.{Deed}
 use Rattle.uicc_run.specs.Steps.{deeds, deeds_of}
 
--- a line behind others
+-- a line after others
 pub deeds_none : (played : List ScriptLine) (line : ScriptLine) → deeds_of line ≡ [] → deeds (played ++ line ∷ []) ≡ deeds played
 deeds_none played line none = flat_map-append deeds_of played (line ∷ []) ∙ ap (λ more. deeds played ++ (more ++ [])) none ∙ append-nil (deeds played)
 

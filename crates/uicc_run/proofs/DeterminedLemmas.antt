@@ -166,7 +166,7 @@ traces_are_one law given first first' left left' end end' now now' run other sam
 log_told : (log : List Event) (played : List ScriptLine) → lines_back log ≡ told_back played → log_lines log ≡ phone_lines played
 log_told log played told = ap reverse told ∙ reverse-reverse (phone_lines played)
 
--- what the card itself leaves behind them is what it holds
+-- what the card itself leaves after them is what it holds
 one_left : (first : Machine) (log : List Event) (card other : CardView) (items others : List TraceItem) (now now' : Moment) → IsPhoneRun (TheCard first) log card → card ≡ other → Stands card items now → Stands other others now' → now.held ≡ now'.held
 one_left first log (TheCard machine) other items others now now' run same stands stands' =
     let theirs : CardStands machine others now' = subst (λ (c : CardView). Stands c others now') (sym same) stands' in stands.stands ∙ sym theirs.stands

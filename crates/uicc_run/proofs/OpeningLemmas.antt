@@ -60,7 +60,7 @@ caused_counted old new caused no_failure no_loss = record {
 pub caused_kept : {Failed Lost : Type 0} → (old new : Meter) → Caused old new Failed Lost → IsUnplanned old new
 caused_kept old new caused = record { faults_kept = caused.faults_kept; cuts_kept = caused.cuts_kept; plans_kept = caused.plans_kept; latest_kept = caused.latest_kept; no_plan = λ none. caused.plan_kept ∙ none }
 
--- behind what met none
+-- after what met none
 pub kept_on : {Failed Lost : Type 0} → (first middle last : Meter) → IsCounted first middle [] [] → Caused middle last Failed Lost → IsUnplanned first last
 kept_on first middle last counted caused = record {
   faults_kept = omega (arith, counted.failures, caused.faults_kept);

@@ -46,7 +46,7 @@ use Rattle.uicc_run.proofs.ShowsAsManyLemmas.{shows_as_many, shows_broken}
 pub stands_there : (given : Given) (line : ScriptLine) (may : Bool) → given.is_served ≡ false → may_follow line ≡ may → may_stand given.is_served line ≡ may
 stands_there given line may unserved follows = subst (λ served. may_stand served line ≡ may) (sym unserved) follows
 
--- one more line behind `start`
+-- one more line after `start`
 read_more : (given : Given) (found : LineList) (section played : List ScriptLine) (card : Option Persistent) (bytes : List ℕ) (line : ScriptLine) → AreReadInPlace given found section played card → IsOnly (IsLine bytes) line → may_stand given.is_served line ≡ true
     → AreReadInPlace given (found ++ Some bytes ∷ []) section (played ++ line ∷ []) card
 read_more given found section played card bytes line so_far only may = record {
@@ -55,11 +55,11 @@ read_more given found section played card bytes line so_far only may = record {
   in_place = All-push (λ l. may_stand given.is_served l ≡ true) played line so_far.in_place may;
 }
 
--- the text behind what was taken
+-- the text after what was taken
 behind : (before was now : Option (List ℕ)) (shown more : List TraceItem) → now ≡ append_known was (text_of more) → was ≡ append_known before (text_of shown) → now ≡ append_known before (text_of (shown ++ more))
 behind before was now shown more then told = told_more before was now (text_of shown) (text_of more) then told ∙ ap (append_known before) (sym (text_of-append shown more))
 
--- the plans of steps behind those of others, and the one that waits behind them
+-- the plans of steps after those of others, and the one that waits after them
 plans_then : PlansAreSetInOrder → (steps more : List Step) (waiting : Plan) → waiting ≡ waiting_after NONE steps → plan_given steps ++ armed_after waiting more ≡ plan_given (steps ++ more)
 plans_then order steps more waiting waits = ap (λ w. plan_given steps ++ armed_after w more) waits ∙ sym (order NONE steps more).0
 
@@ -166,7 +166,7 @@ module _ (tpdu : List ℕ) (kept after : Option Answer) (old : CardView) (from t
     counted = broken.counted;
   }
 
--- ---- behind the lines before
+-- ---- after the lines before
 
 module _ (given : Given) (first : CardView) (script next : ScriptReader) (left left_then : Option (List ℕ)) (line : ScriptLine)
     (search_so : (found : LineList) → Follows given.text found script left → Finds given.text found next left_then line) where
@@ -295,7 +295,7 @@ leaves_so : (card : CardView) (own : List TraceItem) (now : Moment) → ((machin
 leaves_so (TheCard machine) own now stands boxes seen rests = record { stands = stands machine seen; kinds = (boxes machine seen).kinds; minds = λ calm. (boxes machine seen).minds (rests calm) }
 leaves_so (ItsPower on) own now stands boxes seen rests = tt
 
--- the run ends behind the lines that were read
+-- the run ends after the lines that were read
 pub ends_playing : (given : Given) (first : CardView) (script : ScriptReader) (left left_then : Option (List ℕ)) (kept : Option Answer) (end : PlayEnd) (now : Moment)
     → ((machine : Machine) → now.machine ≡ Some machine → now.held ≡ Some machine.card.persistent) → ((machine : Machine) → now.machine ≡ Some machine → HaveBoxes now machine)
     → ((found : LineList) → Follows given.text found script left → StopsPlaying given found left_then end) → IsPlaying given first script left kept now → EndsSo given first left_then end (left_at now)

@@ -60,7 +60,7 @@ is_none (Some card) none = absurd (cc)
 one_start : (memory : Result Persistent ℕ) (start other : Persistent) → memory ≡ Ok start → memory ≡ Ok other → start ≡ other
 one_start memory start other is so = cc
 
--- where a run stands behind `start` and no card was described, the memory held one that could be opened
+-- where a run stands after `start` and no card was described, the memory held one that could be opened
 abbrev pub OpensAt : Given → Stage → Type 0
 OpensAt given (Before card) = Unit {0}
 OpensAt given (Behind None) = HoldsWholeCard given
@@ -196,7 +196,7 @@ stopped_full given status number before taken left ends is told = record {
   reach = ends.cause.reach;
 }
 
--- behind it
+-- after it
 are_in_place : (given : Given) (found : LineList) (section played : List ScriptLine) (card : Option Persistent) → AreReadInPlace given found section played card → AreInPlace given found section played card
 are_in_place given found section played card are = record { said = Say-from_read found (section ++ Start ∷ played) are.read; described = are.described; in_place = are.in_place }
 
@@ -302,7 +302,7 @@ no_box_so given known shelf left taken leaves boxed refused told tells =
 
 -- ---- where it was
 
--- the lines that were read behind `start`, be they for the card or for a handset; and if the card is known, that it was there to be opened
+-- the lines that were read after `start`, be they for the card or for a handset; and if the card is known, that it was there to be opened
 abbrev EndsInLines : Given → Bool → Option (List ℕ) → PlayEnd → Type 0
 EndsInLines given known left end = (ends : EndsBehind given left end) × (known ≡ true → OpensAt given (Behind ends.card))
 
@@ -330,7 +330,7 @@ behind_bad given known left number leaves first is (inr served) = ends_served gi
 
 -- ---- what a run comes to by its lines
 
--- There was no memory to begin with; or it ended behind its lines, or at one of them, with a card to open if that is known; or with a card that
+-- There was no memory to begin with; or it ended after its lines, or at one of them, with a card to open if that is known; or with a card that
 -- could not be opened at `start`.
 abbrev pub Verdict : Given → Bool → ℕ → Option (List ℕ) → Option (List ℕ) → Type 0
 Verdict given known status left taken =

@@ -17,7 +17,7 @@ use Rattle.run_steps.specs.Tpdus.{BreaksOffTpdu, CourseGives, item_of, kept_over
 use Rattle.run_steps.specs.Views.{CardView, IsBare}
 use Rattle.uicc_run.specs.Accounts.{Account, AreTold, BreaksOffDeed, Deed, IsTold, ShowsAsMany, Takes, Transfers, joined, kept_behind}
 
--- where the link keeps no failure, the trace shows as many as the card did, and the link keeps none behind them
+-- where the link keeps no failure, the trace shows as many as the card did, and the link keeps none after them
 record Alike (kept after : Option Answer) (shown own : List TraceItem) : Type 0 where
   failures : left kept ≡ 0 → count_by is_failure shown ≡ count_by is_failure own
   none_left : left kept ≡ 0 → left after ≡ 0
@@ -126,7 +126,7 @@ of_alike after own shown alike = record { failures = alike.failures refl; cuts =
 pub shows_as_many : (deeds : List Deed) (after : Option Answer) (old new : CardView) (account : Account) → AreTold deeds None old account after new → ShowsAsMany account.own account.shown
 shows_as_many deeds after old new account told = of_alike after account.own account.shown (told_alike deeds None after old new account told)
 
--- and so it is where the sink failed in a line behind them
+-- and so it is where the sink failed in a line after them
 module _ (deeds : List Deed) (kept after : Option Answer) (first old : CardView) (account : Account) (told : AreTold deeds None first account kept old) where
   alike_before : Alike None kept account.shown account.own
   alike_before = told_alike deeds None kept first old account told

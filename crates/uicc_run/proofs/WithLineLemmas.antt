@@ -17,7 +17,7 @@ use Rattle.section_lines.specs.Script.{with_line, with_lines}
 use Rattle.section_lines.proofs.WithLinesLemmas.{splits}
 use Rattle.bip_runs.proofs.IsLineLemmas.{Agree}
 
--- the boxes of the applets, and which lines may stand behind `start`
+-- the boxes of the applets, and which lines may stand after `start`
 pub record Rules : Type 0 where
   pub cast : List (Option AppletState)
   pub may : ScriptLine → Bool
@@ -117,7 +117,7 @@ moves_one rules (Behind old) (Before new) other line a b = absurd a
 moves_one rules (Behind old) (Behind new) (Before other) line a b = absurd b
 moves_one rules (Behind old) (Behind new) (Behind other) line a b = ap Behind (a.1 ∙ sym b.1)
 
--- behind `start` a run stays there
+-- after `start` a run stays there
 goes_behind : (rules : Rules) (old : Option Persistent) (line : ScriptLine) (to : Stage) → Moves rules (Behind old) line to → to ≡ Behind old
 goes_behind rules old line (Before new) moves = absurd moves
 goes_behind rules old line (Behind new) moves = ap Behind moves.1
@@ -186,7 +186,7 @@ passes_stop rules R S agree says (Some bytes ∷ found) more (Some others ∷ ot
     let one = moves_one rules from walk.middle stop.middle stop.line (subst (λ l. Moves rules from l walk.middle) lines walk.moves) stop.moves in
     passes_stop rules R S agree says found more other next stop.middle why card stopped (subst (λ m. Walks rules R m found (Behind card)) one walk.rest) stop.rest stops tails
 
--- two ways beyond `start` have one card behind it
+-- two ways beyond `start` have one card after it
 stays_there : (rules : Rules) (R : List ℕ → ScriptLine → Type 0) (found : LineList) (from to : Stage) (card : Option Persistent) → from ≡ Behind card → Walks rules R from found to → to ≡ Behind card
 stays_there rules R [] from to card is walk = sym walk ∙ is
 stays_there rules R (None ∷ found) from to card is walk = absurd walk

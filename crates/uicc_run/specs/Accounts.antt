@@ -24,6 +24,7 @@ pub record Account : Type 0 where
   pub own : List TraceItem
   pub shown : List TraceItem
 
+-- where no line was carried out
 abbrev pub nothing : Account
 nothing = record { steps = []; own = []; shown = [] }
 

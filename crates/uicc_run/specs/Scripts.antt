@@ -93,6 +93,7 @@ pub data Refusal : Type 0 where
   NoCardAt : ℕ → Refusal
   NoBoxOn : ℕ → Refusal
 
+-- the last line of the trace, which says why
 abbrev pub refusal_line : Refusal → TraceLine
 refusal_line (NoCardAt at) = line.NotACard at
 refusal_line (NoBoxOn shelf) = line.NoApplet shelf

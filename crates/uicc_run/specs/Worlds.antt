@@ -10,6 +10,7 @@ use Rattle.applet_trait.specs.declared.applets.Applet.{Ghosts as AppletWords}
 use Rattle.uicc_run.specs.Playing.{Leaves}
 use Rattle.uicc_run.specs.Stores.{held_in}
 
+-- a source, a sink, a memory and the boxes, as they are seen at one moment
 pub record World : Type 0 where
   -- what the source has left to give, where it tells, and the faults that it counted
   pub left : Option (List ℕ)
@@ -67,6 +68,7 @@ pub record Seen : Type 0 where
   pub taken : Option (List ℕ)
   pub status : ℕ
 
+-- that of a run with this status, by what is seen before it and after it
 abbrev pub seen : ℕ → World → World → Seen
 seen status before after = record {
   source = before.source;

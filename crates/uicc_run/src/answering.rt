@@ -25,7 +25,7 @@ use std::alloc::Global;
 use std::fs::File;
 use std::rt::Files;
 
-/// Answers `--help` and `--version`, each alone behind the program's name, with their pages, and has all other words run, with the
+/// Answers `--help` and `--version`, each alone after the program's name, with their pages, and has all other words run, with the
 /// boxes of the applets on their shelves.
 pub fn answer<H: Files<File = File> + Eprint + AllocGlobal, R: Source, W: Sink, B: Applet>(
     rt: &H,

@@ -5,7 +5,7 @@ ghost use Rattle.uicc_run.specs.StandardNumbers.{StandardNumbers};
 use card_laws::runs_are_one;
 use phone_runs::phone_runs_are_one;
 
-/// Two runs of the same section and the same lines behind `start`, without a handset, in which no memory fails and no power is lost,
+/// Two runs of the same section and the same lines after `start`, without a handset, in which no memory fails and no power is lost,
 /// have one trace and leave one memory.
 pub fn traces_are_one()
     ensures { TracesAreOne }

@@ -32,7 +32,7 @@ a_reset_restores_it = inl (refl, refl)
 the_memory_fails_in_a_reset : LastShows (ItsPower true) step.Reset (item.EepromFailed ∷ []) (ItsPower true)
 the_memory_fails_in_a_reset = refl
 
--- a card itself is known behind a step where it was before it
+-- a card itself is known after a step where it was before it
 what_is_known_stays_known : (old : Machine) (step : Step) (items : List TraceItem) (on : Bool) → StepShows (TheCard old) step items (ItsPower on) → ⊥
 what_is_known_stays_known old step items on none = none
 
