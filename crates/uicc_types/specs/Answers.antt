@@ -7,6 +7,6 @@ use Rattle.uicc_types.specs.declared.answers.Answer.{Answer}
 abbrev pub status_bytes : ℕ → List ℕ
 status_bytes status = to_be_bytes w16 status
 
--- the data, and the status behind them
+-- the data, and the status after them
 abbrev pub answer_bytes : Answer → List ℕ
 answer_bytes answer = answer.body ++ status_bytes answer.status.0
