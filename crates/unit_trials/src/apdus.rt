@@ -24,7 +24,7 @@ fn show_command(command: &Command<'_>, row: &mut Row<'_>) {
     }
 }
 
-/// `answer DATA STATUS`: the bytes that are written, and what is left behind them of a buffer of FF.
+/// `answer DATA STATUS`: the bytes that are written, and what is left after them of a buffer of FF.
 pub fn show_answer(row: &mut Row<'_>) {
     let mut answer = Answer::new();
     answer.body = row.list();
