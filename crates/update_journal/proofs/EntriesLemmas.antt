@@ -66,7 +66,7 @@ entries_back (piece ∷ pieces) more places few =
     ∙ ap (λ (o : Option (Piece × List ℕ)). option_and_then (λ found. option_map (λ ps. found.0 ∷ ps) (first_pieces (length pieces) found.1)) o) first
     ∙ ap (λ (o : Option (List Piece)). option_map (λ ps. piece ∷ ps) o) rest
 
--- what is spelled is read back, whatever stands behind it
+-- what is spelled is read back, whatever stands after it
 pub pieces_back : (size : ℕ) (pieces : List Piece) (more : List ℕ) → 0 < length pieces → IsWithinBounds pieces → All (IsUsablePiece size) pieces → pieces_in size (entries pieces ++ more) ≡ Some pieces
 unfolding entries pieces_in
 pieces_back size pieces more some bounds usable =

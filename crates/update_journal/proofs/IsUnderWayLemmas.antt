@@ -41,7 +41,7 @@ while_entries count None (Some image) fits settled torn = absurd torn
 while_entries count (Some image) None fits settled torn = absurd torn
 while_entries count (Some old) (Some new) fits settled torn = some_same _ _ ((entries_torn count old new fits (shut old settled) torn).1)
 
--- the image with its entries, behind the closed gate
+-- the image with its entries, while the gate is closed
 record Spelled (pieces : List Piece) (old mid : List ℕ) : Type 0 where
   long : length mid ≡ length old
   closed : is_open mid ≡ false
@@ -185,7 +185,7 @@ found_nothing None size gate bytes long seen is read found = tt
 found_nothing (Some image) size gate bytes long seen is read found =
     let opened = opened_by image gate seen is in record { opened = opened; of_pieces = pending_none image opened (area_in size image bytes long read ∙ found) }
 
--- only behind an open gate is anything written
+-- only while the gate is open is anything written
 pub not_closed : (told new : Told) (gate : List ℕ) → IfSome told (λ held. gate ≡ slice_range held 64 65) → get_or gate 0 0 ≡ 0x5A → IfSome told (λ image. is_open image ≡ false → new ≡ Some image)
 not_closed None new gate seen is = tt
 not_closed (Some image) new gate seen is = λ closed. absurd (let opened = opened_by image gate seen is in cc (opened, closed))

@@ -35,7 +35,7 @@ spelled_again a b number low small is = be_bytes_2 (a ∷ b ∷ []) number refl 
 word_low : (a b : ℕ) → IsByte a → IsByte b → from_be_bytes w16 (a ∷ b ∷ []) < 2 ^ 16
 word_low a b low small = omega (arith, low, small)
 
--- a piece, and what stands behind it
+-- a piece, and what stands after it
 abbrev IsSpelled : List ℕ → Piece → List ℕ → Type 0
 IsSpelled bytes piece rest = (bytes ≡ entry piece ++ rest) × IsLow piece × All IsByte rest
 

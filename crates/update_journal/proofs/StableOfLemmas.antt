@@ -58,7 +58,7 @@ pub pending-SameOwn : (old new : List ℕ) → SameOwn old new → pending new �
 pending-SameOwn old new same =
     pending_same old new same.same_length (same_gate old new (same.own 64 (omega arith) (omega arith))) (same_area old new same.same_length (λ k from to. same.own k (omega arith) to))
 
--- while entries are written behind the closed gate
+-- while entries are written, with the gate closed
 pub entries_torn : (count : ℕ) (old new : List ℕ) → 128 + count ≤ 832 → is_open old ≡ false → Torn 128 count old new → (is_open new ≡ false) × (stable_of new ≡ stable_of old)
 entries_torn count old new fits closed torn =
     let still : is_open new ≡ false = same_gate old new (torn.before 64 (omega arith)) ∙ closed in
@@ -103,7 +103,7 @@ gate_torn pieces old new closed usable spelled torn = elim (cases_Bool (is_open 
   | inr shut ↦ inl (stable_closed new shut ∙ hidden-Torn old new (Torn_wider 64 1 64 768 old new (omega arith) (omega arith) torn) ∙ sym (stable_closed old closed))
 ]
 
--- while the pieces are written into their places behind the open gate
+-- while the pieces are written into their places, with the gate open
 pub pieces_torn : (pieces : List Piece) (old new : List ℕ) → pending old ≡ pieces → AreUsable pieces (length old) → Rewritten pieces old new → stable_of new ≡ stable_of old
 pieces_torn pieces old new is usable rewritten =
     let own : SameOwn old new = record { same_length = rewritten.same_length; own = λ k low high. rewritten.spared k (Spare_own (length old) pieces k usable low high) } in
@@ -143,7 +143,7 @@ closed_gate image roomy = ap (λ (n : ℕ). n == 0x5A) (patched_inside 64 (0 ∷
 pub opened_gate : (image : List ℕ) → 832 ≤ length image → is_open (patched 64 (0x5A ∷ []) image) ≡ true
 opened_gate image roomy = ap (λ (n : ℕ). n == 0x5A) (patched_inside 64 (0x5A ∷ []) image (omega arith) 64 (omega arith) (omega arith))
 
--- a range that a caller may name, behind the closed gate
+-- a range that a caller may name, with the gate closed
 pub prepared_torn : (at count : ℕ) (old new : List ℕ) → is_open old ≡ false → 0 < count → IsUsable (length old) at count → Torn at count old new → (is_open new ≡ false) × Torn at count (stable_of old) (stable_of new)
 prepared_torn at count old new closed some usable torn =
     let still : is_open new ≡ false = same_gate old new (gate_spared (torn.before 64) (torn.after 64) (usable.outside some)) ∙ closed in

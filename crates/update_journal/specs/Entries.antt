@@ -15,7 +15,7 @@ entry piece = to_be_bytes w16 piece.place ++ to_be_bytes w16 (length piece.bytes
 unfoldable pub entries : List Piece → List ℕ
 entries pieces = length pieces ∷ flat_map entry pieces
 
--- the piece that these bytes begin with, and what stands behind it; none where they end before the piece does
+-- the piece that these bytes begin with, and what stands after it; none where they end before the piece does
 abbrev pub first_piece : List ℕ → Option (Piece × List ℕ)
 first_piece (p0 ∷ p1 ∷ l0 ∷ l1 ∷ rest) =
     let count = from_be_bytes w16 (l0 ∷ l1 ∷ []) in
@@ -31,9 +31,11 @@ first_pieces (suc count) bytes = option_and_then (λ found. option_map (λ piece
 abbrev pub is_usable : ℕ → ℕ → ℕ → Bool
 is_usable size place count = nat_lt 0 count && nat_le (place + count) size && (nat_le (place + count) OWN_START || nat_le OWN_END place)
 
+-- a commit may have each of these pieces, and they have at most 640 bytes together
 abbrev pub are_well_formed : ℕ → List Piece → Bool
 are_well_formed size pieces = list_all (λ piece. is_usable size piece.place (length piece.bytes)) pieces && nat_le (byte_total pieces) MOST_BYTES
 
+-- these pieces, where a commit may have them; else none
 abbrev pub if_well_formed : ℕ → List Piece → Option (List Piece)
 if_well_formed size pieces = if are_well_formed size pieces then Some pieces else None
 

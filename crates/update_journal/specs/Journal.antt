@@ -18,6 +18,7 @@ pub record Journaled (E : Type 0) : Type 0 where
   pub recoveries : ℕ
   pub is_ready : Bool
 
+-- the gate is open: a commit was begun, and is to be ended
 abbrev pub is_open : List ℕ → Bool
 is_open image = slice_index image GATE == OPEN
 

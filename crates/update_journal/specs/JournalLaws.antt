@@ -11,7 +11,7 @@ pub record MayBeCommitted (size : ℕ) (pieces : List Piece) : Type 0 where
   pub bounds : IsWithinBounds pieces
   pub usable : AreUsable pieces size
 
--- the bytes that spell them are read as just these pieces, whatever stands behind them
+-- the bytes that spell them are read as just these pieces, whatever stands after them
 abbrev pub EntriesAreRead : Type 0
 EntriesAreRead = (size : ℕ) (pieces : List Piece) (behind : List ℕ) → MayBeCommitted size pieces → pieces_in size (entries pieces ++ behind) ≡ Some pieces
 

@@ -41,7 +41,7 @@ pub fn spell<const N: usize>(writes: &Writes, spelled: &mut ByteList<N>) -> Resu
     Ok(())
 }
 
-// The piece at the front of these bytes, and what stands behind it.
+// The piece at the front of these bytes, and what stands after it.
 fn read_entry(bytes: &[u8]) -> Option<(u16, &[u8], &[u8])>
     ensures { MatchOption result (first_piece bytes.now ≡ None)
         (λ read. first_piece bytes.now ≡ Some (record { place = read.0; bytes = read.1.now }, read.2.now)) }

@@ -187,12 +187,12 @@ impl<E: Eeprom> Store for Journal<E> {
             (result ≡ Err StoreFault.PowerLost) × (E.meter self.new.device ≡ E.meter self.old.device)
             × (is_recovered self.new.is_ready (E.contents self.new.device) ≡ is_recovered self.old.is_ready (E.contents self.old.device))
             × (E.contents self.new.device ≡ E.contents self.old.device) }
-        // Behind a gate that isn't open no byte changes, also where it fails.
+        // Where the gate isn't open no byte changes, also where it fails.
         ensures untouched { IfSome (E.contents self.old.device)
             (λ image. is_open image ≡ false → E.contents self.new.device ≡ Some image) }
         // After a fault a recovery is due still.
         ensures due { OnErr result (is_recovered self.new.is_ready (E.contents self.new.device) ≡ false) }
-        // A call for each page of the pieces that are to be written, and one for the gate; none behind a gate that isn't open.
+        // A call for each page of the pieces that are to be written, and one for the gate; none where the gate isn't open.
         ensures calls { IfSome (E.contents self.old.device)
             (λ image. MakesCalls (calls_to_recover image) self.old.programs self.new.programs result) }
         // At most 18 calls, also where the device tells nothing.

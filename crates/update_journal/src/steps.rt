@@ -49,7 +49,7 @@ fn write_pieces<E: Eeprom>(device: &mut CountedDevice<E>, writes: &Writes) -> Re
     Ok(())
 }
 
-// Ends the commit of these pieces: writes them behind the open gate, and closes it.
+// Ends the commit of these pieces, whose gate is open: writes them, and closes it.
 fn carry_out<E: Eeprom>(device: &mut CountedDevice<E>, writes: &Writes) -> Result<(), StoreFault>
     requires roomy { OWN_END ≤ E.byte_count device.old.eeprom }
     requires usable { All (IsUsablePiece (E.byte_count device.old.eeprom)) writes.now }
