@@ -6,6 +6,7 @@ use Rattle.access_rules.specs.Objects.{object}
 use Rattle.access_rules.specs.declared.rules.Verified.{Verified}
 
 mutual
+  -- a condition: always or never met, the one of a key, or that one or each of several is met
   pub data Condition : Type 0 where
     always : Condition
     never : Condition
@@ -13,10 +14,12 @@ mutual
     some_of : Conditions → Condition
     all_of : Conditions → Condition
 
+  -- one condition after the other
   pub data Conditions : Type 0 where
     end : Conditions
     also : Condition → Conditions → Conditions
 
+-- the tag that tells which condition it is
 abbrev pub tag_of : Condition → ℕ
 tag_of always = 0x90
 tag_of never = 0x97
@@ -33,10 +36,12 @@ abbrev mutual
   value_of (some_of conditions) = spelled_all conditions
   value_of (all_of conditions) = spelled_all conditions
 
+  -- the objects of these conditions, one after the other
   pub spelled_all : Conditions → List ℕ
   spelled_all end = []
   spelled_all (also condition others) = object (tag_of condition) (value_of condition) ++ spelled_all others
 
+-- the object that a condition is written as
 abbrev pub condition_object : Condition → List ℕ
 condition_object condition = object (tag_of condition) (value_of condition)
 
@@ -51,6 +56,7 @@ abbrev mutual
   IsProper (all_of conditions) zero = ⊥
   IsProper (all_of conditions) (suc levels) = (0 < length (spelled_all conditions)) × (length (spelled_all conditions) < 256) × AreProper conditions levels
 
+  -- each of them may stand where so many levels are left
   pub AreProper : Conditions → ℕ → Type 0
   AreProper end levels = Unit {0}
   AreProper (also condition others) levels = IsProper condition levels × AreProper others levels
@@ -61,6 +67,7 @@ is_satisfied reference seen =
     if reference == PIN_1 then seen.pin1 else if reference == PIN_2 then seen.pin2 else if reference == ADM_1 then seen.adm1 else false
 
 abbrev mutual
+  -- a condition is met where these keys count
   pub holds : Condition → Verified → Bool
   holds always seen = true
   holds never seen = false
@@ -68,10 +75,12 @@ abbrev mutual
   holds (some_of conditions) seen = some_hold conditions seen
   holds (all_of conditions) seen = all_hold conditions seen
 
+  -- one of them is met
   pub some_hold : Conditions → Verified → Bool
   some_hold end seen = false
   some_hold (also condition others) seen = holds condition seen || some_hold others seen
 
+  -- each of them is met
   pub all_hold : Conditions → Verified → Bool
   all_hold end seen = true
   all_hold (also condition others) seen = holds condition seen && all_hold others seen

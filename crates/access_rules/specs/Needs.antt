@@ -15,6 +15,7 @@ abbrev pub IsGroup : Conditions → ℕ → Type 0
 IsGroup conditions zero = ⊥
 IsGroup conditions (suc levels) = (0 < length (spelled_all conditions)) × (length (spelled_all conditions) < 256) × AreProper conditions levels
 
+-- one of the conditions is met (A0), or each of them (AF)
 abbrev pub hold_by : Needs → Conditions → Verified → Bool
 hold_by One conditions seen = some_hold conditions seen
 hold_by Each conditions seen = all_hold conditions seen

@@ -30,10 +30,12 @@ pub data Mode : Type 0 where
   by_bits : ℕ → Mode
   by_instruction : ℕ → Mode
 
+-- 80 for an access mode byte, 84 for an instruction byte
 abbrev pub mode_tag : Mode → ℕ
 mode_tag (by_bits bits) = 0x80
 mode_tag (by_instruction instruction) = 0x84
 
+-- the one byte of an access mode object
 abbrev pub mode_value : Mode → List ℕ
 mode_value (by_bits bits) = bits ∷ []
 mode_value (by_instruction instruction) = instruction ∷ []
@@ -48,6 +50,7 @@ pub record Pair : Type 0 where
   pub mode : Mode
   pub condition : Condition
 
+-- the two objects of a pair: its access mode, and its condition
 abbrev pub spelled_pair : Pair → List ℕ
 spelled_pair pair = object (mode_tag pair.mode) (mode_value pair.mode) ++ condition_object pair.condition
 
