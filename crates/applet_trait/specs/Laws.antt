@@ -14,6 +14,7 @@ abbrev pub IsWritableAct : Act → Type 0
 IsWritableAct (Send command) = HasWritableTime command
 IsWritableAct _ = Unit {0}
 
+-- the number of one of the eight timers
 pub record IsTimer (timer : ℕ) : Type 0 where
   pub from_1 : 1 ≤ timer
   pub up_to_8 : timer ≤ 8
