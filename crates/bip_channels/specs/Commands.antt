@@ -8,6 +8,7 @@ pub record IsNumber (channel : ℕ) : Type 0 where
   pub from_1 : 1 ≤ channel
   pub to_7 : channel ≤ 7
 
+-- where a command names a channel, this is one from 1 to 7
 abbrev pub IsProper : BipCommand → Type 0
 IsProper (OpenChannel size) = Unit {0}
 IsProper (CloseChannel channel) = IsNumber channel

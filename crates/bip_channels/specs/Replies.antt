@@ -72,6 +72,7 @@ misread BadData = DATA_NOT_UNDERSTOOD
 
 -- ---- responses and envelopes
 
+-- what each terminal response begins with: the details of the command, and that the terminal answers
 abbrev pub heading : Details → List Object
 heading details = required COMMAND_DETAILS (details.number ∷ details.kind ∷ details.qualifier ∷ []) ∷ from_terminal ∷ []
 
