@@ -17,11 +17,13 @@ use Rattle.bip_runs.specs.declared.effects.Happening.{Happening}
 use Rattle.bip_runs.specs.declared.effects.Happening.TheVariants as happening
 use Rattle.bip_runs.specs.declared.effects.Place.{Place}
 
+-- what happens to the terminal by a line that was read
 abbrev pub occurrence_for : Happening → Occurrence
 occurrence_for (happening.Command bytes) = Commands bytes.now
 occurrence_for (happening.Echo channel count) = Echoes channel count
 occurrence_for (happening.Lost channel) = Cuts channel
 
+-- what a line that was read is for the terminal
 abbrev pub part_for : Effect → Part
 part_for Nothing = Blank
 part_for Starts = Begins
