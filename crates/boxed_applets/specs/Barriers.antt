@@ -13,5 +13,6 @@ phase_of Asking = 1
 phase_of Keeping = 2
 phase_of Answered = 4
 
+-- the mind that the fields of a barrier are
 abbrev pub barrier_mind : Barrier → AppletState
 barrier_mind barrier = mind_of 5 phase_of barrier.state

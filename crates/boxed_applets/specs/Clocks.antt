@@ -14,5 +14,6 @@ phase_of Started = 2
 phase_of Ticking = 3
 phase_of Freeing = 4
 
+-- the mind that the fields of a clock are
 abbrev pub clock_mind : Clock → AppletState
 clock_mind clock = record (mind_of 3 phase_of clock.state) { held = clock.held }

@@ -11,5 +11,6 @@ abbrev phase_of : Phase → ℕ
 phase_of Ready = 0
 phase_of Greeting = 1
 
+-- the mind that the fields of a greeter are
 abbrev pub greeter_mind : Greeter → AppletState
 greeter_mind greeter = mind_of 1 phase_of greeter.state

@@ -12,5 +12,6 @@ phase_of Ready = 0
 phase_of Offering = 1
 phase_of Chosen = 2
 
+-- the mind that the fields of a menu are
 abbrev pub menu_mind : Menu → AppletState
 menu_mind menu = mind_of 2 phase_of menu.state

@@ -12,5 +12,6 @@ phase_of Ready = 0
 phase_of Asking = 1
 phase_of KeepingOrShowing = 2
 
+-- the mind that the fields of a notebook are
 abbrev pub notebook_mind : Notebook → AppletState
 notebook_mind notebook = mind_of 6 phase_of notebook.state

@@ -4,9 +4,11 @@ use Rattle.applet_trait.specs.Tables as Tables
 use Rattle.applet_trait.specs.Tables.{rows}
 use Rattle.boxed_applets.specs.declared.programs.ProgramRow.{ProgramRow}
 
+-- a row of a table applet as the definitions have it
 abbrev pub row_of : ProgramRow → Tables.ActionRow
 row_of row = record { event = row.event; action = row.action; argument = row.argument }
 
+-- the same with its place
 abbrev pub placed : ℕ × ProgramRow → ℕ × Tables.ActionRow
 placed (place, row) = (place, row_of row)
 

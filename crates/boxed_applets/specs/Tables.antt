@@ -11,5 +11,6 @@ abbrev phase_of : Phase → ℕ
 phase_of Ready = 0
 phase_of Running = 1
 
+-- the mind that the fields of a table are
 abbrev pub table_mind : Table → AppletState
 table_mind table = record (mind_of 7 phase_of table.state) { held = table.held; code = table.code }

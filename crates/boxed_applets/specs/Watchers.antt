@@ -12,5 +12,6 @@ phase_of Ready = 0
 phase_of Keeping = 1
 phase_of Showing = 2
 
+-- the mind that the fields of a watcher are
 abbrev pub watcher_mind : Watcher → AppletState
 watcher_mind watcher = mind_of 4 phase_of watcher.state
