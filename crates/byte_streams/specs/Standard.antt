@@ -15,5 +15,6 @@ writer_of sink = sink.output
 abbrev pub source_faults : {I : Type 0} → InputSource I → ℕ
 source_faults source = source.faults
 
+-- the faults that an adapter of standard output counted
 abbrev pub sink_faults : {O : Type 0} → OutputSink O → ℕ
 sink_faults sink = sink.faults
