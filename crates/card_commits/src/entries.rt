@@ -1,4 +1,4 @@
-//! The entry of a file, and where a record lies.
+//! The entry of a file, and where a record lies. Where record 1 of a ring stands is told by its head, a field of this card's layout.
 ghost use Rattle.std.specs.Prelude.{◌≡◌, ◌+◌, ◌*◌, ◌%◌, ◌≤◌, ◌<◌, ◌^◌};
 ghost use Rattle.card_state.specs.States.{record_count};
 ghost use Rattle.card_state.specs.Used.{HasNode};
@@ -28,7 +28,7 @@ fn count_of(node: &Node) -> u16
     node.size / u16::from(node.length)
 }
 
-/// Where record `index + 1` of a file lies: behind the one at the head, and round.
+/// Where record `index + 1` of a file lies: after the one at the head, and round.
 pub fn place_of_record(node: &Node, index: u8) -> usize
     requires width { 1 ≤ node.now.length }
     requires some { 1 ≤ record_count node.now }
