@@ -22,6 +22,7 @@ pub data KnownBy : Type 0 where
   ByTable : KnownBy
   ByMemory : KnownBy
 
+-- the card holds this state, as far as is known: by the bytes that its store tells, by its table, or by some memory that its table is of
 abbrev pub IsKnown : KnownBy → CardParts → Persistent → Type 0
 IsKnown ByStore parts state = held_by parts ≡ Some state
 IsKnown ByTable parts state = IsTold parts.table state
@@ -77,6 +78,7 @@ pub record StandsInStore {X : Type 0} (result : Result X StoreFault) (old new : 
   pub stopped : OnErr result (IsLeftAt old new card commits)
   pub stable : commits ≡ [] → new.told ≡ old.told
 
+-- what a command leaves of the card, by what is known of its state
 abbrev pub StandsBy : {X : Type 0} → KnownBy → Result X StoreFault → CardParts → CardParts → CardState → List Persistent → Type 0
 StandsBy ByStore result old new card commits = StandsInStore result old new card commits
 StandsBy ByTable result old new card commits = Unit {0}
