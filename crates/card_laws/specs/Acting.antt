@@ -59,9 +59,11 @@ abbrev pub IsTurnOf : Option OpenRun → ShelfTurn → OpenRun → Type 0
 IsTurnOf None turn run = (begins_run turn.stimulus ≡ true) × (run ≡ begun_by turn)
 IsTurnOf (Some last) turn run = (turn.shelf ≡ last.shelf) × (turn.stimulus ≡ last.tells) × (run ≡ last)
 
+-- what stays the same in a run that was begun here
 abbrev pub setting_in : Point → OpenRun → Setting
 setting_in point run = record { shelf = run.shelf; profile = point.profile; in_call = run.in_call }
 
+-- the rows, the timers and the mind that an act is done over
 abbrev pub works_in : Point → AppletState → Works
 works_in point mind = record { rows = point.rows; timers = point.timers; mind = mind }
 
@@ -100,6 +102,7 @@ pub record TellsOfTurn (turn : ShelfTurn) (point next : Point) (is : IsTurn turn
   pub applet : let left = (act is.mind turn.stimulus).next in IsLeftAs turn next left ⊎ ((is.run.acts ≡ 32) × IsLeftAs turn next (fresh left.kind (kept_on next.rows turn.shelf)))
   pub sends : turn.is_admitted ≡ true → (command : Proactive) × (turn.act ≡ Acts.Send command) × (next.run ≡ None)
 
+-- Each turn that is noted tells what the applet did and what came of it.
 abbrev pub TurnsTell : Type 0
 TurnsTell = (turn : ShelfTurn) (point next : Point) (is : IsTurn turn point next) → TellsOfTurn turn point next is
 
@@ -122,11 +125,13 @@ begins_with (Delete shelf) state = (unregistering shelf state).state
 begins_with (Wake rows minds) state = toolkit_woken rows minds
 begins_with _ state = state
 
+-- What is noted of a command of the toolkit is what the applets do at it, turn by turn.
 abbrev pub AppletsActInTurn : Type 0
 AppletsActInTurn = (command : ToolkitInput) (state : ToolkitState) → ActInTurn (point_of (begins_with command state)) (moved command state).log (point_of (moved command state).state)
 
 -- ---- over all that happens to a card
 
+-- the toolkit as the applets find it, after what a command does before them
 abbrev pub begins_at : Option ToolkitInput → ToolkitState → ToolkitState
 begins_at None state = state
 begins_at (Some command) state = begins_with command state
@@ -139,6 +144,7 @@ ActAtEach knows card (event ∷ events) =
     ActInTurn (point_of (begins_at (taken_at knows card event) (toolkit_of card))) (noted_of knows card (event ∷ [])).log (point_of (toolkit_of (card_after knows card event)))
     × ActAtEach knows (card_after knows card event) events
 
+-- So it is at each command of a run of a card.
 abbrev pub AppletsActAtEachEvent : Type 0
 AppletsActAtEachEvent =
     (knows : Instruction → Bool) (card : CardState) (events : List Event) → has_toolkit knows ≡ true → HasOrder card → AllCanHappen knows card events → ActAtEach knows card events

@@ -20,6 +20,8 @@ pub record IsAnsweredSo (card : CardState) (key : ℕ) (status : StatusWord) (an
   pub body : answered.body ≡ []
   pub keeps : ChangesAtMostTries key status card answered.state
 
+-- Where a condition of the list holds, the card answers the status of the first that does, without data, and changes nothing, or the tries and
+-- the mark of the key that the status tells of.
 abbrev pub ConditionsRefuse : Type 0
 ConditionsRefuse =
     (card : CardState) (bytes : List ℕ) (status : StatusWord) → IsGood card → AreBytes bytes

@@ -115,6 +115,7 @@ refusals_of_unblock_pin pins apdu =
 abbrev pub opens_channel : Apdu → Bool
 opens_channel apdu = apdu.p1 == 0x00 && apdu.p2 == 0x00
 
+-- P1 and P2 of a MANAGE CHANNEL that closes channel 1, 2 or 3
 abbrev pub closes_channel : Apdu → Bool
 closes_channel apdu = apdu.p1 == 0x80 && nat_le 1 apdu.p2 && nat_le apdu.p2 3
 
@@ -122,6 +123,7 @@ closes_channel apdu = apdu.p1 == 0x80 && nat_le 1 apdu.p2 && nat_le apdu.p2 3
 abbrev pub has_channel_length : Apdu → Bool
 has_channel_length apdu = if opens_channel apdu then has_no_data apdu && is_le_of_number apdu.expected else has_no_data apdu
 
+-- MANAGE CHANNEL (11.1.17)
 abbrev pub refusals_of_manage_channel : List (Option Selection) → Apdu → List Refusal
 refusals_of_manage_channel channels apdu =
     (not (opens_channel apdu || closes_channel apdu), WRONG_PARAMETERS)
@@ -199,6 +201,7 @@ refusals_of_delete_applet card seen apdu =
 
 -- ---- the commands by their names
 
+-- the list of each command on what a file holds
 abbrev pub refusals_on_contents : ContentsCommand → Persistent → Verified → Selection → Apdu → List Refusal
 refusals_on_contents ContentsCommands.ReadBinary = refusals_of_read_binary
 refusals_on_contents ContentsCommands.UpdateBinary = refusals_of_update_binary
@@ -209,11 +212,13 @@ refusals_on_contents ContentsCommands.Increase = refusals_of_increase
 refusals_on_contents ContentsCommands.Deactivate = refusals_of_life_cycle Ops.Deactivate
 refusals_on_contents ContentsCommands.Activate = refusals_of_life_cycle Ops.Activate
 
+-- the list of each command on files
 abbrev pub refusals_on_files : FileCommand → Persistent → Verified → Selection → Apdu → List Refusal
 refusals_on_files FileCommands.Select = refusals_of_select
 refusals_on_files FileCommands.Status = refusals_of_status
 refusals_on_files (FileCommands.Contents command) = refusals_on_contents command
 
+-- the list of each command on PINs
 abbrev pub refusals_on_pins : PinCommand → List Pin → Apdu → List Refusal
 refusals_on_pins PinCommands.Verify = refusals_of_verify_pin
 refusals_on_pins PinCommands.Change = refusals_of_change_pin
@@ -221,6 +226,7 @@ refusals_on_pins PinCommands.Disable = refusals_of_disable_pin
 refusals_on_pins PinCommands.Enable = refusals_of_enable_pin
 refusals_on_pins PinCommands.Unblock = refusals_of_unblock_pin
 
+-- the list of each command of the toolkit
 abbrev pub refusals_on_toolkit : CatCommand → CardState → Verified → Apdu → List Refusal
 refusals_on_toolkit CatCommands.TerminalProfile = refusals_of_terminal_profile
 refusals_on_toolkit CatCommands.Fetch = refusals_of_fetch
@@ -229,6 +235,7 @@ refusals_on_toolkit CatCommands.Envelope = refusals_of_envelope
 refusals_on_toolkit CatCommands.InstallApplet = refusals_of_install
 refusals_on_toolkit CatCommands.DeleteApplet = refusals_of_delete_applet
 
+-- the list of each command that makes, deletes or resizes a file
 abbrev pub refusals_on_trees : TreeCommand → Persistent → Verified → List (Option Selection) → ℕ → Apdu → List Refusal
 refusals_on_trees TreeCommands.Create = refusals_of_create
 refusals_on_trees TreeCommands.Delete = refusals_of_delete

@@ -14,6 +14,7 @@ use Rattle.card_model.specs.States.{CardState, Machine}
 abbrev pub commits_until : (card : CardState) (apdu : List ℕ) (left : CardState) → IsLeft card (passed card apdu) left → List Persistent
 commits_until card apdu left is = take is.passed.0 (answer card apdu).commits
 
+-- the states that a command of a run commits; none where there is no power
 abbrev pub command_commits : (old : Machine) (apdu : List ℕ) (items : List TraceItem) (new : Machine) (on : Bool) → MatchBool on (Commands old apdu items new) (MeetsNoPower old apdu items new) → List Persistent
 command_commits old apdu items new true (inl exchanged) = (answer old.card apdu).commits
 command_commits old apdu items new true (inr (inl fails)) = commits_until old.card apdu fails.card fails.left

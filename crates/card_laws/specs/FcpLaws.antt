@@ -50,6 +50,7 @@ pub record HasShortIdentifiers (file : File) : Type 0 where
   pub id : file.id < 2 ^ 16
   pub arr : IfSome file.rule (λ rule. rule.arr < 2 ^ 16)
 
+-- the file control parameters can tell no difference between two files
 pub record AreToldAlike (one other : Descriptor) : Type 0 where
   pub kind : one.kind ≡ other.kind
   pub id : one.id ≡ other.id

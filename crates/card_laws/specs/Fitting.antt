@@ -16,6 +16,7 @@ pub record IsPinValue (value : List ℕ) : Type 0 where
   pub long : length value ≡ 8
   pub bytes : AreBytes value
 
+-- both values of a PIN have eight bytes
 pub record FitsPin (pin : Pin) : Type 0 where
   pub value : IsPinValue pin.value
   pub unblock : IsPinValue pin.unblock

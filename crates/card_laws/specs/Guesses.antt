@@ -24,6 +24,7 @@ presents_by OfUnblock ins = ins == 0x2C
 abbrev pub is_trial : Guard → ℕ → Apdu → Bool
 is_trial guard key apdu = presents_by guard apdu.ins && apdu.p2 == key && has_data apdu
 
+-- some bytes are a command, and this holds of it
 abbrev pub if_command : (Apdu → Bool) → Option Apdu → Bool
 if_command test None = false
 if_command test (Some apdu) = test apdu
@@ -43,6 +44,7 @@ abbrev pub is_guess : Guard → ℕ → List ℕ → List TraceItem → Bool
 is_guess guard key bytes (item.Answer body status ∷ more) = presents guard key bytes && tells_tries status
 is_guess guard key bytes _ = false
 
+-- a count, raised where this is so
 abbrev pub one_more_if : Bool → ℕ → ℕ
 one_more_if is count = if is then count + 1 else count
 
@@ -59,6 +61,7 @@ abbrev pub tries_if : Guard → Option Pin → ℕ
 tries_if guard None = 0
 tries_if guard (Some pin) = tries_by guard pin
 
+-- how many tries are left of the PIN with this key, or of its UNBLOCK PIN; none where it is absent
 abbrev pub tries_of : Guard → ℕ → List Pin → ℕ
 tries_of guard key pins = tries_if guard (pin_found pins key)
 
@@ -75,10 +78,12 @@ all_tries OfUnblock = UNBLOCK_TRIES
 
 -- ---- right values
 
+-- the value of a PIN, or that of its UNBLOCK PIN
 abbrev pub value_by : Guard → Pin → List ℕ
 value_by OfPin pin = pin.value
 value_by OfUnblock pin = pin.unblock
 
+-- a command presents the right value
 abbrev pub is_right_by : Guard → ℕ → Pin → Apdu → Bool
 is_right_by guard key pin apdu = is_trial guard key apdu && bytes_eq (value_presented apdu) (value_by guard pin)
 

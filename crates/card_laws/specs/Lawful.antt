@@ -16,6 +16,7 @@ use Rattle.card_model.specs.declared.instructions.Instruction.{Instruction}
 abbrev pub toolkit_statuses : List StatusWord
 toolkit_statuses = WRONG_DATA ∷ NO_ROOM ∷ TOOLKIT_BUSY ∷ []
 
+-- a status that a card with applets may answer; some are for commands that make, delete or resize files alone
 abbrev pub IsStatus : Bool → StatusWord → Type 0
 IsStatus of_tree status = IsStatusOf of_tree status ⊎ Contains toolkit_statuses status
 
@@ -40,6 +41,7 @@ pub record IsLawfulWithApplets (card : CardState) (of_tree : Bool) (key : ℕ) (
   pub status : IsStatus of_tree answered.status
   pub refused : is_carried_out answered.status ≡ false → ChangesAtMostTries key answered.status card answered.state
 
+-- Each answer of a good card that runs applets is lawful.
 abbrev pub AnswersAreLawful : Type 0
 AnswersAreLawful =
     (knows : Instruction → Bool) (card : CardState) (bytes : List ℕ) → has_toolkit knows ≡ true → IsGood card → AreBytes bytes

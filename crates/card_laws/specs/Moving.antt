@@ -39,12 +39,14 @@ rows_by (Install row) rows = with_row rows row
 rows_by (Delete shelf) rows = without_row rows shelf
 rows_by _ rows = rows
 
+-- the registered applets after a command of the toolkit, if there was one
 abbrev pub rows_after : Option ToolkitInput → List Registration → List Registration
 rows_after None rows = rows
 rows_after (Some command) rows = rows_by command rows
 
 -- ---- commands
 
+-- the INSTALL that this row comes from, where it isn't refused
 abbrev pub if_row : Result Registration RowFault → Option ToolkitInput
 if_row (Ok row) = Some (Install row)
 if_row (Err fault) = None
@@ -59,6 +61,7 @@ command_of toolkit.Envelope card apdu = option_map (λ envelope. Report envelope
 command_of toolkit.InstallApplet card apdu = if_row (installed_row card.persistent (kind_in card apdu.p2) apdu.p2 apdu.p1 apdu.body)
 command_of toolkit.DeleteApplet card apdu = Some (Delete apdu.p2)
 
+-- the command of the toolkit that an instruction is, where it is one
 abbrev pub command_by : Instruction → CardState → Apdu → Option ToolkitInput
 command_by (File file.Status) card apdu = Some Status
 command_by (Toolkit command) card apdu = command_of command card apdu
@@ -69,6 +72,7 @@ abbrev pub if_carried : Result Answered StatusWord → Option ToolkitInput → O
 if_carried (Ok answered) command = command
 if_carried (Err status) command = None
 
+-- the command of the toolkit that is carried out, where the card takes it
 abbrev pub taken_by : CardState → Apdu → Result Instruction StatusWord → Option ToolkitInput
 taken_by card apdu (Ok instruction) = if_carried (carried_with true instruction card apdu) (command_by instruction card apdu)
 taken_by card apdu (Err status) = None
@@ -90,6 +94,7 @@ pub record StaysAsItWas (card : CardState) (answered : Answered) : Type 0 where
   pub toolkit : toolkit_of answered.state ≡ toolkit_of card
   pub commits : All (λ state. state.rows ≡ card.persistent.rows) answered.commits
 
+-- a card goes on by a command of the toolkit as that says, and is as it was otherwise
 abbrev pub GoesOn : Option ToolkitInput → CardState → Answered → Type 0
 GoesOn (Some command) card answered = GoesOnBy command card answered
 GoesOn None card answered = StaysAsItWas card answered
@@ -113,6 +118,7 @@ pub data Event : Type 0 where
   Breaks : List ℕ → CardState → Event
   Restarts : Event
 
+-- a card after what happens to it
 abbrev pub card_after : (Instruction → Bool) → CardState → Event → CardState
 card_after knows card (Answers bytes) = (answer_of knows card bytes).state
 card_after knows card (Breaks bytes left) = left
@@ -132,14 +138,17 @@ taken_at knows card Restarts = Some (Wake card.persistent.rows card.boxes)
 
 -- ---- one thing after the other
 
+-- a card after all of this
 abbrev pub card_after_all : (Instruction → Bool) → CardState → List Event → CardState
 card_after_all knows card [] = card
 card_after_all knows card (event ∷ events) = card_after_all knows (card_after knows card event) events
 
+-- each of this can happen, one after the other
 abbrev pub AllCanHappen : (Instruction → Bool) → CardState → List Event → Type 0
 AllCanHappen knows card [] = ⊤
 AllCanHappen knows card (event ∷ events) = CanHappen knows card event × AllCanHappen knows (card_after knows card event) events
 
+-- the commands of the toolkit that are carried out in it
 abbrev pub all_taken : (Instruction → Bool) → CardState → List Event → List ToolkitInput
 all_taken knows card [] = []
 all_taken knows card (event ∷ events) = option_to_list (taken_at knows card event) ++ all_taken knows (card_after knows card event) events

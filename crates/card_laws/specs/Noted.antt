@@ -62,19 +62,23 @@ notes_of (Respond out reply) state = Responded out reply ∷ []
 notes_of (Wake rows minds) state = Woke ∷ []
 notes_of _ state = []
 
+-- What is noted of a command of the toolkit, beside turns, is this.
 abbrev pub CommandsAreNoted : Type 0
 CommandsAreNoted = (command : ToolkitInput) (state : ToolkitState) → besides (moved command state).log ≡ notes_of command state
 
 -- ---- over all that happens to a card
 
+-- what is noted where a command is carried out, if one is
 abbrev pub notes_at : Option ToolkitInput → ToolkitState → List Happening
 notes_at None state = []
 notes_at (Some command) state = notes_of command state
 
+-- what is noted in a run of a card
 abbrev pub notes_in : (Instruction → Bool) → CardState → List Event → List Happening
 notes_in knows card [] = []
 notes_in knows card (event ∷ events) = notes_at (taken_at knows card event) (toolkit_of card) ++ notes_in knows (card_after knows card event) events
 
+-- the events that a command brings, if one is carried out
 abbrev pub brought_at : Option ToolkitInput → ToolkitState → List LateTrigger
 brought_at None state = []
 brought_at (Some command) state = brought command state
@@ -84,6 +88,7 @@ abbrev pub brought_in : (Instruction → Bool) → CardState → List Event → 
 brought_in knows card [] = []
 brought_in knows card (event ∷ events) = brought_at (taken_at knows card event) (toolkit_of card) ++ brought_in knows (card_after knows card event) events
 
+-- In each run of a card what is noted, beside turns, is this, and so are the events that were brought.
 abbrev pub EventsAreNoted : Type 0
 EventsAreNoted =
     (knows : Instruction → Bool) (card : CardState) (events : List Event) → has_toolkit knows ≡ true → HasOrder card → AllCanHappen knows card events

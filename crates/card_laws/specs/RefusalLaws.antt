@@ -19,6 +19,7 @@ use Rattle.card_laws.specs.Refusals.{Refusal, file_meant}
 abbrev pub CommandOnFiles : Type 0
 CommandOnFiles = Persistent → Verified → Selection → Apdu → Result FileOutcome StatusWord
 
+-- a condition that is not met refuses nothing
 abbrev pub DoesNotHold : Refusal → Type 0
 DoesNotHold refusal = refusal.0 ≡ false
 
@@ -42,6 +43,7 @@ IsRefusedFor refusals command = (state : Persistent) (seen : Verified) (selectio
 abbrev pub TreeCommand : Type 0
 TreeCommand = Persistent → Verified → List (Option Selection) → ℕ → Apdu → Result TreeOutcome StatusWord
 
+-- A command that makes, deletes or resizes a file is refused for the first of these, and for nothing else.
 abbrev pub IsTreeRefusedFor : (Persistent → Verified → List (Option Selection) → ℕ → Apdu → List Refusal) → TreeCommand → Type 0
 IsTreeRefusedFor refusals command =
     (state : Persistent) (seen : Verified) (channels : List (Option Selection)) (channel : ℕ) (apdu : Apdu)

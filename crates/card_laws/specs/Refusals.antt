@@ -37,6 +37,7 @@ abbrev pub file_meant : Persistent → Selection → Option ℕ → Option Descr
 file_meant state selection None = current_ef (descriptors_in state) selection
 file_meant state selection (Some short) = file_found (descriptors_in state) (Short selection.df short)
 
+-- the status where no EF is addressed: no current EF (6986), or none with the short file identifier (6A82)
 abbrev pub without_file : Option ℕ → StatusWord
 without_file None = NO_CURRENT_FILE
 without_file (Some short) = FILE_NOT_FOUND
@@ -52,6 +53,7 @@ of_file state selection short refusals = (is_none (file_meant state selection sh
 
 -- ---- commands on what a file holds
 
+-- READ BINARY (11.1.3)
 abbrev pub refusals_of_read_binary : Persistent → Verified → Selection → Apdu → List Refusal
 refusals_of_read_binary state seen selection apdu =
     (not (has_binary_parameters apdu), WRONG_PARAMETERS)
@@ -63,6 +65,7 @@ refusals_of_read_binary state seen selection apdu =
     ∷ (nat_le file.size (offset_of apdu), WRONG_OFFSET)
     ∷ [])
 
+-- UPDATE BINARY (11.1.4)
 abbrev pub refusals_of_update_binary : Persistent → Verified → Selection → Apdu → List Refusal
 refusals_of_update_binary state seen selection apdu =
     (not (has_binary_parameters apdu), WRONG_PARAMETERS)
@@ -74,6 +77,7 @@ refusals_of_update_binary state seen selection apdu =
     ∷ (nat_lt file.size (offset_of apdu + length apdu.body), WRONG_OFFSET)
     ∷ [])
 
+-- READ RECORD (11.1.5)
 abbrev pub refusals_of_read_record : Persistent → Verified → Selection → Apdu → List Refusal
 refusals_of_read_record state seen selection apdu =
     (not (has_record_parameters apdu), WRONG_PARAMETERS)
@@ -86,6 +90,7 @@ refusals_of_read_record state seen selection apdu =
     ∷ (not (is_record_length file (unwrap_or apdu.expected 0)), other_length file.width)
     ∷ [])
 
+-- UPDATE RECORD (11.1.6)
 abbrev pub refusals_of_update_record : Persistent → Verified → Selection → Apdu → List Refusal
 refusals_of_update_record state seen selection apdu =
     (not (has_record_parameters apdu), WRONG_PARAMETERS)
@@ -98,6 +103,7 @@ refusals_of_update_record state seen selection apdu =
     ∷ (not (length apdu.body == file.width), WRONG_LENGTH)
     ∷ [])
 
+-- SEARCH RECORD (11.1.7)
 abbrev pub refusals_of_search_record : Persistent → Verified → Selection → Apdu → List Refusal
 refusals_of_search_record state seen selection apdu =
     (not (has_search_parameters apdu), WRONG_PARAMETERS)
@@ -110,6 +116,7 @@ refusals_of_search_record state seen selection apdu =
     ∷ (nat_lt file.width (length apdu.body), WRONG_LENGTH)
     ∷ [])
 
+-- INCREASE (11.1.8)
 abbrev pub refusals_of_increase : Persistent → Verified → Selection → Apdu → List Refusal
 refusals_of_increase state seen selection apdu =
     (not (has_increase_parameters apdu), WRONG_PARAMETERS)
@@ -124,6 +131,7 @@ refusals_of_increase state seen selection apdu =
 
 -- ---- commands that select a file, or tell of one
 
+-- SELECT (11.1.1)
 abbrev pub refusals_of_select : Persistent → Verified → Selection → Apdu → List Refusal
 refusals_of_select state seen selection apdu =
     (not (has_select_parameters apdu), WRONG_PARAMETERS)
@@ -155,6 +163,7 @@ refusals_of_life_cycle op state seen selection apdu =
 
 -- ---- commands that make, delete and resize files, on a channel
 
+-- CREATE FILE (TS 102 222, 6.3)
 abbrev pub refusals_of_create : Persistent → Verified → List (Option Selection) → ℕ → Apdu → List Refusal
 refusals_of_create state seen channels channel apdu =
     (not (has_no_parameters apdu), WRONG_PARAMETERS)
@@ -170,6 +179,7 @@ refusals_of_create state seen channels channel apdu =
 abbrev pub child_of : Persistent → List (Option Selection) → ℕ → Apdu → Option Descriptor
 child_of state channels channel apdu = child_named (descriptors_in state) (df_on channels channel) apdu.body
 
+-- DELETE FILE (TS 102 222, 6.4)
 abbrev pub refusals_of_delete : Persistent → Verified → List (Option Selection) → ℕ → Apdu → List Refusal
 refusals_of_delete state seen channels channel apdu =
     (not (has_no_parameters apdu), WRONG_PARAMETERS)
@@ -180,6 +190,7 @@ refusals_of_delete state seen channels channel apdu =
     ∷ (is_in_use (descriptors_in state) channels file, CONDITIONS_NOT_SATISFIED)
     ∷ [])
 
+-- RESIZE FILE (TS 102 222, 6.10)
 abbrev pub refusals_of_resize : Persistent → Verified → List (Option Selection) → ℕ → Apdu → List Refusal
 refusals_of_resize state seen channels channel apdu =
     (not (has_no_parameters apdu), WRONG_PARAMETERS)

@@ -24,6 +24,7 @@ unfoldable pub put_out : List (Option ℕ × Proactive) → SessionState → Ses
 put_out [] session = session
 put_out (sent ∷ others) session = put_out others (putting_out sent.0 sent.1 session)
 
+-- the number of the command that is outstanding, if there is one
 abbrev pub number_out : SessionState → Option ℕ
 number_out session = option_map (λ out. out.number) session.out
 
@@ -41,6 +42,7 @@ NumbersAreInRange = (number : ℕ) → IsCommandNumber (next_number number)
 abbrev pub NumbersComeBack : Type 0
 NumbersComeBack = (number : ℕ) → IsCommandNumber number → number_after 254 number ≡ number
 
+-- Fewer than 254 commands later no command has the same number.
 abbrev pub NumbersDiffer : Type 0
 NumbersDiffer = (number count : ℕ) → IsCommandNumber number → 1 ≤ count → count < 254 → number_after count number ≢ number
 

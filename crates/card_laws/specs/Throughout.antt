@@ -25,6 +25,7 @@ abbrev pub accepted_in : ℕ → Happening → Option Stimulus
 accepted_in shelf (Responded out reply) = if is_owner shelf out.owner then Some (Response reply.result reply.item reply.text) else None
 accepted_in shelf _ = None
 
+-- the stimulus, where it is the response to a command
 abbrev pub if_response : Stimulus → Option Stimulus
 if_response (Response result item text) = Some (Response result item text)
 if_response _ = None
@@ -34,9 +35,11 @@ abbrev pub response_in : ℕ → Happening → Option Stimulus
 response_in shelf (Turned turn) = if turn.shelf == shelf then if_response turn.stimulus else None
 response_in shelf _ = None
 
+-- the responses that were accepted to commands of this applet
 abbrev pub accepted_for : ℕ → List Happening → List Stimulus
 accepted_for shelf log = filter_map (accepted_in shelf) log
 
+-- the responses that this applet was given
 abbrev pub responses_to : ℕ → List Happening → List Stimulus
 responses_to shelf log = filter_map (response_in shelf) log
 

@@ -27,6 +27,7 @@ RunsAreEvents =
 
 -- ---- good cards
 
+-- a command is a list of bytes
 abbrev pub HasBytes : Step → Type 0
 HasBytes (step.Apdu apdu) = AreBytes apdu
 HasBytes _ = ⊤

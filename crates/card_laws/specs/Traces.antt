@@ -37,6 +37,7 @@ abbrev pub next_signal : List ℕ → List TraceItem → Option Signal
 next_signal bytes (item.Answer body status ∷ more) = answer_signal bytes status
 next_signal bytes _ = None
 
+-- the commands that were fetched, the responses that were accepted and the wakes of all applets, as a trace shows them
 abbrev pub signals : List TraceItem → List Signal
 signals [] = []
 signals (item.Command bytes ∷ more) = option_to_list (next_signal bytes more) ++ signals more
@@ -70,6 +71,7 @@ is_ending Wakes = true
 abbrev pub EndsBetween : List Signal → Type 0
 EndsBetween seen = (early between late : List Signal) → seen ≡ early ++ (Fetches ∷ (between ++ (Fetches ∷ late))) → list_any is_ending between ≡ true
 
+-- So it is in each run of a good card that runs applets.
 abbrev pub FetchesAreAnswered : Type 0
 FetchesAreAnswered =
     (old new : Machine) (steps : List Step) (items : List TraceItem) → has_toolkit is_known ≡ true → IsGood old.card → All HasBytes steps → IsRun old steps items new → EndsBetween (signals items)
