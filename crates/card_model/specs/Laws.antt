@@ -86,9 +86,11 @@ statuses =
     ∷ CONDITIONS_NOT_SATISFIED ∷ NO_CURRENT_FILE ∷ NO_FREE_CHANNEL ∷ FILE_NOT_FOUND ∷ RECORD_NOT_FOUND ∷ WRONG_PARAMETERS
     ∷ REFERENCE_NOT_FOUND ∷ WRONG_OFFSET ∷ NO_SUCH_INSTRUCTION ∷ NO_SUCH_CLASS ∷ OVERFLOW ∷ []
 
+-- 91XX: a command of so many bytes is there to be fetched
 abbrev pub TellsPending : StatusWord → Type 0
 TellsPending status = (count : ℕ) × (count ≤ 255) × (status ≡ record { 0 = 0x9100 + count })
 
+-- a status that a command may answer which makes, deletes and resizes no file
 abbrev pub IsKnownStatus : StatusWord → Type 0
 IsKnownStatus status = Contains statuses status ⊎ ((width : ℕ) × (width ≤ 255) × (status ≡ other_length width)) ⊎ TellsTries status ⊎ TellsPending status
 
@@ -96,6 +98,7 @@ IsKnownStatus status = Contains statuses status ⊎ ((width : ℕ) × (width ≤
 abbrev pub tree_statuses : List StatusWord
 tree_statuses = WRONG_DATA ∷ NO_ROOM ∷ FILE_ALREADY_THERE ∷ []
 
+-- the same, and for a command that does, those of `tree_statuses` too
 abbrev pub IsStatusOf : Bool → StatusWord → Type 0
 IsStatusOf of_tree status = IsKnownStatus status ⊎ ((of_tree ≡ true) × Contains tree_statuses status)
 
@@ -141,6 +144,7 @@ pub record IsLawfulAnswer (card : CardState) (of_tree : Bool) (key : ℕ) (answe
 abbrev pub WithoutToolkit : (Instruction → Bool) → Type 0 → Type 0
 WithoutToolkit knows P = MatchBool (has_toolkit knows) ⊤ P
 
+-- Each answer of a good card that knows no command of the toolkit is lawful.
 abbrev pub PlainAnswersAreLawful : Type 0
 PlainAnswersAreLawful =
     (knows : Instruction → Bool) (card : CardState) (bytes : List ℕ) → IsGood card → AreBytes bytes → WithoutToolkit knows (IsLawfulAnswer card (is_of_tree_named bytes) (key_named bytes) (answer_of knows card bytes))
