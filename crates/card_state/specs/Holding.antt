@@ -42,16 +42,19 @@ pub record HasFullRecords (node : Node) : Type 0 where
   pub few : record_count node ≤ 254
   pub full : record_count node * node.length ≡ node.size
 
+-- a file of a memory that stands for a state holds what its entry says
 abbrev pub StandingFilesHold : Type 0
 StandingFilesHold =
     (store_mark : ℕ) (content : List ℕ) (table : Loaded) (state : Persistent) (number : ℕ) (node : Node)
     → Stands store_mark content table state → HasNode table number node → HoldsByKind node (file_of content number node).contents
 
+-- the bytes of an EF lie among those of the files
 abbrev pub StandingFilesHaveBytes : Type 0
 StandingFilesHaveBytes =
     (store_mark : ℕ) (content : List ℕ) (table : Loaded) (state : Persistent) (number : ℕ) (node : Node)
     → Stands store_mark content table state → HasNode table number node → node.kind ≢ df_kind → HasBytes table node
 
+-- a file with records has full ones
 abbrev pub StandingRecordsAreFull : Type 0
 StandingRecordsAreFull =
     (store_mark : ℕ) (content : List ℕ) (table : Loaded) (state : Persistent) (number : ℕ) (node : Node)

@@ -7,6 +7,7 @@ use Rattle.card_state.specs.Persistent.{Registration}
 use Rattle.card_state.specs.Sections.{Installation, is_installation, sorted_codes}
 use Rattle.card_state.specs.declared.installation.Installed.{Installed}
 
+-- an installation, where its parts keep to their bounds
 abbrev pub checked_parts : Installation → Option Installation
 checked_parts found = if is_installation found then Some found else None
 

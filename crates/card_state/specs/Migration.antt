@@ -19,6 +19,7 @@ migrated state = if list_all ends_low state.files then record state { is_wide = 
 abbrev pub entry_ends_low : Node → Bool
 entry_ends_low node = not (node.used && is_ef_kind node.kind) || nat_le (node.place + node.size) (data_end true)
 
+-- so it is with each entry of a table
 unfoldable pub entries_end_low : Loaded → Bool
 entries_end_low table = list_all entry_ends_low table.nodes
 

@@ -11,6 +11,7 @@ use Rattle.card_state.specs.Persistent.{Rule}
 use Rattle.card_state.specs.States.{contents_in}
 use Rattle.card_state.specs.Sections.{kind_of, size_of, is_shape, blank_contents}
 
+-- the entry of a new DF in this one
 abbrev pub df_node : ℕ → FileId → Node
 df_node parent id = record unused_node { used = true; kind = df_kind; id = id; parent = parent; life = activated }
 
@@ -24,10 +25,12 @@ width_of (Cyclic width count) = width
 abbrev pub rule_from : Option (FileId × ℕ) → Option Rule
 rule_from rule = option_map (λ pair. record { arr = pair.0.0; number = pair.1 }) rule
 
+-- the record of an EF_ARR that a rule names is 1 to 254; a file may have no rule
 abbrev pub rule_holds : Option (FileId × ℕ) → Bool
 rule_holds None = true
 rule_holds (Some pair) = nat_le 1 pair.1 && nat_le pair.1 RECORD_LIMIT
 
+-- the EF_ARR that a rule names; 0 where there is none
 abbrev pub arr_of : Option (FileId × ℕ) → FileId
 arr_of None = record { 0 = 0 }
 arr_of (Some pair) = pair.0
@@ -37,6 +40,7 @@ abbrev pub record_of : Option (FileId × ℕ) → ℕ
 record_of None = 0
 record_of (Some pair) = pair.1
 
+-- the entry of a new EF in this DF, whose bytes begin at this place
 abbrev pub ef_node : ℕ → ℕ → FileId → Shape → ℕ → Option (FileId × ℕ) → Node
 ef_node place parent id shape short rule = record {
   used = true;

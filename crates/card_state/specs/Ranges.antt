@@ -17,6 +17,7 @@ pub record HasPinRanges (pin : PinSlot) : Type 0 where
   pub value : length pin.value.0 ≡ 8
   pub unblock : length pin.unblock.0 ≡ 8
 
+-- the numbers and lists of a row fit into its bytes
 pub record HasRowRanges (row : Row) : Type 0 where
   pub sequence : row.sequence < 2 ^ 16
   pub events : row.events < 2 ^ 16

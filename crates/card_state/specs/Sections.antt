@@ -306,5 +306,6 @@ made_from state [] = state
 made_from (Err fault) (line ∷ lines) = Err fault
 made_from (Ok state) (line ∷ lines) = made_from (line_added state line) lines
 
+-- what the lines of a section describe, beginning with a card that has the MF alone
 abbrev pub made : List SectionLine → Result Persistent SectionFault
 made lines = made_from (Ok bare_card) lines

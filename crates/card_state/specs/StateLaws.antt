@@ -17,49 +17,60 @@ use Rattle.card_state.specs.Used.{HasNode, HasPin, HasRow, HasOwnKeys, file_if, 
 abbrev pub file_with_number : Persistent → ℕ → Option File
 file_with_number state number = find (λ file. file.number == number) state.files
 
+-- the PIN with this key, if there is one
 abbrev pub pin_with_key : Persistent → ℕ → Option Pin
 pin_with_key state key = find (λ pin. pin.key == key) state.pins
 
+-- the applet that is registered on this shelf, if there is one
 abbrev pub row_on_shelf : Persistent → ℕ → Option Registration
 row_on_shelf state shelf = find (λ row. row.shelf == shelf) state.rows
 
 -- ---- it is the entry's; where the entry is not used there is none
 
+-- a state has under a number the file of the table's entry, where that is used
 abbrev pub FilesAreEntries : Type 0
 FilesAreEntries = (table : Loaded) (content : List ℕ) (number : ℕ) → file_with_number (state_of table content) number ≡ option_and_then (file_if content number) (slice_get table.nodes number)
 
+-- a state has under a key the PIN of the slot, where there is one
 abbrev pub PinsAreEntries : Type 0
 PinsAreEntries =
     (table : Loaded) (content : List ℕ) (slot : ℕ) → HasOwnKeys table → length table.pins ≡ PIN_COUNT → slot < PIN_COUNT
     → pin_with_key (state_of table content) (key_of_slot slot) ≡ option_and_then pin_if (slice_get table.pins slot)
 
+-- a state has on a shelf the applet of the table's row, where that is used
 abbrev pub RowsAreEntries : Type 0
 RowsAreEntries = (table : Loaded) (content : List ℕ) (shelf : ℕ) → row_on_shelf (state_of table content) shelf ≡ option_and_then (registration_if shelf) (slice_get table.rows shelf)
 
 -- ---- and each that a state has is an entry's
 
+-- a file is that of a used entry
 pub record IsOfNode (table : Loaded) (content : List ℕ) (file : File) : Type 0 where
   pub node : Node
   pub has : HasNode table file.number node
   pub same : file ≡ file_of content file.number node
 
+-- a PIN is that of a slot with a key
 pub record IsOfSlot (table : Loaded) (pin : Pin) : Type 0 where
   pub slot : ℕ
   pub entry : PinSlot
   pub has : HasPin table slot entry
   pub same : pin ≡ pin_state entry
 
+-- a registered applet is that of a used row
 pub record IsOfRow (table : Loaded) (row : Registration) : Type 0 where
   pub entry : Row
   pub has : HasRow table row.shelf entry
   pub same : row ≡ registration_of row.shelf entry
 
+-- each file of a state is that of an entry
 abbrev pub FilesComeFromEntries : Type 0
 FilesComeFromEntries = (table : Loaded) (content : List ℕ) (file : File) → Contains (state_of table content).files file → IsOfNode table content file
 
+-- each PIN of a state is that of a slot
 abbrev pub PinsComeFromEntries : Type 0
 PinsComeFromEntries = (table : Loaded) (content : List ℕ) (pin : Pin) → Contains (state_of table content).pins pin → IsOfSlot table pin
 
+-- each registered applet of a state is that of a row
 abbrev pub RowsComeFromEntries : Type 0
 RowsComeFromEntries = (table : Loaded) (content : List ℕ) (row : Registration) → Contains (state_of table content).rows row → IsOfRow table row
 
@@ -78,6 +89,7 @@ pub record IsOfTable (table : Loaded) (state : Persistent) : Type 0 where
   pub next : state.next_sequence ≡ table.next
   pub wide : state.is_wide ≡ table.wide
 
+-- PINs, rows and all of a file but what it holds are told by the table alone
 abbrev pub StatesAreOfTables : Type 0
 StatesAreOfTables = (table : Loaded) (content : List ℕ) → IsOfTable table (state_of table content)
 

@@ -12,14 +12,17 @@ use Rattle.card_state.specs.States.{file_of, pin_state, registration_of}
 
 -- ---- by their numbers
 
+-- the table has this file under this number
 pub record HasNode (table : Loaded) (number : ℕ) (node : Node) : Type 0 where
   pub there : slice_get table.nodes number ≡ Some node
   pub used : node.used ≡ true
 
+-- the table has a PIN in this slot
 pub record HasPin (table : Loaded) (slot : ℕ) (pin : PinSlot) : Type 0 where
   pub there : slice_get table.pins slot ≡ Some pin
   pub key : pin.key ≢ 0
 
+-- the table has an applet registered on this shelf
 pub record HasRow (table : Loaded) (shelf : ℕ) (row : Row) : Type 0 where
   pub there : slice_get table.rows shelf ≡ Some row
   pub used : row.used ≡ true
@@ -34,9 +37,11 @@ HasOwnKeys table = (slot : ℕ) (pin : PinSlot) → HasPin table slot pin → pi
 abbrev pub file_if : List ℕ → ℕ → Node → Option File
 file_if content number node = if node.used then Some (file_of content number node) else None
 
+-- the registered applet that a row stands for, where it is used
 abbrev pub registration_if : ℕ → Row → Option Registration
 registration_if shelf row = if row.used then Some (registration_of shelf row) else None
 
+-- the PIN that a slot stands for, where it has a key
 abbrev pub pin_if : PinSlot → Option Pin
 pin_if pin = if pin.key == 0 then None else Some (pin_state pin)
 
