@@ -30,6 +30,7 @@ pub record HasToolkit (now : Scene) (card : CardState) : Type 0 where
 abbrev pub state_at : ToolkitOutcome → ℕ → Persistent → Persistent
 state_at outcome count persistent = slice_index_or (persistent ∷ states_passed persistent outcome) count persistent
 
+-- the state after all commits of a command
 abbrev pub last_state : ToolkitOutcome → Persistent → Persistent
 last_state outcome persistent = last_of persistent (states_passed persistent outcome)
 
@@ -57,6 +58,7 @@ pub record IsToolkitCutShort (outcome : ToolkitOutcome) (old new : Scene) : Type
       ⊎ (held new.memory ≡ option_map (state_at outcome (count + 1)) (held old.memory))
   pub commits : new.memory.commits ≡ raised_by count old.memory.commits
 
+-- what a command comes to after Ok, or where a fault stops it
 abbrev pub Comes : {X : Type 0} → ToolkitOutcome → Scene → Scene → Result X StoreFault → Type 0
 Comes outcome old new (Ok result) = HasCome outcome old new
 Comes outcome old new (Err fault) = IsToolkitCutShort outcome old new

@@ -37,6 +37,7 @@ pub record IsNotRegistered (row : Registration) (old new : Scene) : Type 0 where
       ⊎ (held new.memory ≡ option_map (with_row_installed row) (held old.memory))
   pub commits : new.memory.commits ≡ old.memory.commits
 
+-- what the commit of a row comes to after Ok, or where a fault stops it
 abbrev pub Registers : {X : Type 0} → Registration → Scene → Scene → Result X StoreFault → Type 0
 Registers row old new (Ok result) = IsRegistered row old new
 Registers row old new (Err fault) = IsNotRegistered row old new

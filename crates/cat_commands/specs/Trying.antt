@@ -55,12 +55,15 @@ response_given details bytes =
     given (response_of known bytes) WRONG_DATA (λ response.
     Ok response))
 
+-- a TERMINAL RESPONSE is tested: its parameters and its length, and then whether its data respond to the command with these details
 unfoldable pub response_tried : Option Details → Apdu → Result Response StatusWord
 response_tried details apdu = and_given (data_tried apdu) (λ done. response_given details apdu.body)
 
+-- the envelope that the data are, or 6A80
 abbrev pub envelope_given : List ℕ → Result Envelope StatusWord
 envelope_given bytes = given (envelope_of bytes) WRONG_DATA (λ envelope. Ok envelope)
 
+-- an ENVELOPE is tested: its parameters and its length, and then whether its data are one
 unfoldable pub envelope_tried : Apdu → Result Envelope StatusWord
 envelope_tried apdu = and_given (data_tried apdu) (λ done. envelope_given apdu.body)
 
