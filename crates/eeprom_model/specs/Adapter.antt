@@ -36,6 +36,7 @@ is_planned (Some call) number = call == number
 abbrev pub after_read : Adapter → Adapter
 after_read device = record device { reads = raised device.reads; is_fresh = false }
 
+-- a program call is counted
 abbrev pub after_program : Adapter → Adapter
 after_program device = record device { programs = raised device.programs; is_fresh = false }
 
@@ -49,9 +50,11 @@ left_by (Err PowerLost) device = record device { meter = record device.meter { c
 abbrev pub fails_to_read : Adapter → Bool
 fails_to_read device = is_planned device.meter.plan.read_fail device.reads
 
+-- the plan names this program call for a cut
 abbrev pub is_cut_off : Adapter → Bool
 is_cut_off device = is_planned (option_map (λ cut. cut.call) device.meter.plan.cut) device.programs
 
+-- the plan names this program call for a failure
 abbrev pub fails_to_program : Adapter → Bool
 fails_to_program device = is_planned (option_map (λ fail. fail.call) device.meter.plan.fail) device.programs
 

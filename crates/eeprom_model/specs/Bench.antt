@@ -31,15 +31,19 @@ planned_for call_of number (Some entry) = if call_of entry == number then Some e
 abbrev pub cut_bytes : CutAt → List ℕ → List ℕ
 cut_bytes cut bytes = take cut.kept bytes ++ replicate (length bytes - cut.kept) cut.rest
 
+-- there is no power, and nothing is done
 abbrev pub lost : Bench → Outcome
 lost bench = record { answer = Err PowerLost; left = bench }
 
+-- the call fails, and is counted
 abbrev pub failed : Bench → Outcome
 failed bench = record { answer = Err Failed; left = record bench { meter = record bench.meter { faults = raised bench.meter.faults } } }
 
+-- power is lost in the call, and is counted
 abbrev pub cut_off : Bench → Outcome
 cut_off bench = record { answer = Err PowerLost; left = record bench { meter = record bench.meter { cuts = raised bench.meter.cuts; powered = false } } }
 
+-- the call succeeds
 abbrev pub done : Bench → Outcome
 done bench = record { answer = Ok tt; left = bench }
 
@@ -57,13 +61,16 @@ programmed_under None None at bytes bench = done (holding at bytes bench)
 abbrev pub programmed_now : ℕ → List ℕ → Bench → Outcome
 programmed_now at bytes bench = programmed_under (planned_for (λ cut. cut.call) bench.programs bench.meter.plan.cut) (planned_for (λ fail. fail.call) bench.programs bench.meter.plan.fail) at bytes bench
 
+-- what a program call comes to: without power nothing is done
 unfoldable pub program_outcome : ℕ → List ℕ → Bench → Outcome
 program_outcome at bytes bench = if bench.meter.powered then programmed_now at bytes (record bench { programs = raised bench.programs; is_fresh = false }) else lost bench
 
+-- a read call fails where the plan names it
 abbrev pub read_under : Option ℕ → Bench → Outcome
 read_under (Some call) bench = failed bench
 read_under None bench = done bench
 
+-- what a read call comes to: without power nothing is done
 unfoldable pub read_outcome : Bench → Outcome
 read_outcome bench = if bench.meter.powered then read_under (planned_for (λ call. call) (raised bench.reads) bench.meter.plan.read_fail) (record bench { reads = raised bench.reads; is_fresh = false }) else lost bench
 
