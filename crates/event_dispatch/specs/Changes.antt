@@ -58,14 +58,17 @@ Follows (Keeps shelf bytes) rows old new = new ≡ old
 
 -- ---- changes, one after the other
 
+-- the rows after all of these changes
 abbrev pub changed_by : List RowChange → List Registration → List Registration
 changed_by [] rows = rows
 changed_by (change ∷ others) rows = changed_by others (changed change rows)
 
+-- each of these changes may be made, one after the other
 abbrev pub MayChangeAll : List RowChange → List Registration → Type 0
 MayChangeAll [] rows = Unit {0}
 MayChangeAll (change ∷ others) rows = MayChange change rows × MayChangeAll others (changed change rows)
 
+-- the index followed each of these changes
 abbrev pub FollowsAll : List RowChange → List Registration → List (List ℕ) → List (List ℕ) → Type 0
 FollowsAll [] rows old new = new ≡ old
 FollowsAll (change ∷ others) rows old new = (between : List (List ℕ)) × Follows change rows old between × FollowsAll others (changed change rows) between new
@@ -80,6 +83,7 @@ pub record IsRegistering (rows : List Registration) (shelf code : ℕ) (old : Li
   pub lacks : targets_in old code ≡ targets (without_row (with_code rows shelf code) shelf) code
   pub stands : (new : List (List ℕ)) → ComesIn (with_code rows shelf code) code old new → StandsFor new (with_code rows shelf code)
 
+-- each registration that may be made is one that an index follows
 abbrev pub RegistrationsAreFollowed : Type 0
 RegistrationsAreFollowed =
     (rows : List Registration) (shelf code : ℕ) (old : List (List ℕ))

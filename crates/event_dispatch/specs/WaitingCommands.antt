@@ -19,6 +19,7 @@ read_command (Err fault) = MoreTime
 abbrev pub command_of : List ℕ → Proactive
 command_of bytes = read_command (proactive_of bytes)
 
+-- the command in a frame, whose first byte is the shelf
 abbrev pub command_in : List ℕ → Proactive
 command_in part = command_of (drop 1 part)
 
@@ -34,5 +35,6 @@ pub record IsCommandFrame (part : List ℕ) : Type 0 where
 abbrev pub sent_in : List ℕ → Sent
 sent_in part = record { shelf = slice_index_or part 0 0; command = command_in part }
 
+-- a command that the applet on a shelf sent
 abbrev pub sent : Shelf → Proactive → Sent
 sent shelf command = record { shelf = shelf.0; command = command }
