@@ -18,12 +18,15 @@ use Rattle.file_model.specs.declared.descriptors.Wanted.TheVariants.{Number, Nam
 abbrev pub node_at : Loaded → ℕ → Node
 node_at table number = slice_index_or table.nodes number unused_node
 
+-- the rule that an entry names, if it names one
 abbrev pub reference_of : Node → Option RuleReference
 reference_of node = if node.rule == 0 then None else Some (record { arr = node.arr; number = node.rule })
 
+-- what is known of a DF by its entry: it has no short identifier, no rule and no size, and is activated
 abbrev pub df_descriptor : ℕ → Node → Descriptor
 df_descriptor number node = record { number = number; parent = node.parent; kind = node.kind; id = node.id; short = 0; life = activated; rule = None; size = 0; width = 0; count = 0 }
 
+-- what is known of an EF by its entry
 abbrev pub ef_descriptor : ℕ → Node → Descriptor
 ef_descriptor number node = record {
   number = number;

@@ -1,4 +1,5 @@
--- What keeps a PIN from being guessed: each value that is presented takes a try before it is compared (ETSI TS 102 221, 9.5).
+-- What keeps a PIN from being guessed: each value that is presented takes a try before it is compared. What a wrong value takes is the
+-- standard's (ETSI TS 102 221, 11.1.9 to 11.1.13), and the order this card's own.
 use Rattle.std.specs.Prelude.{◌≡◌, ℕ, ◌-◌, ◌≤◌, ◌⊎◌, List, [], ◌∷◌, Some, IsSomeAnd, Result, IfOk}
 use Rattle.uicc_types.specs.declared.answers.StatusWord.{StatusWord}
 use Rattle.apdu_form.specs.Model.{Apdu}
@@ -20,10 +21,12 @@ abbrev pub guard_of : PinCommand → Guard
 guard_of Unblock = OfUnblock
 guard_of _ = OfPin
 
+-- how many tries are left of a PIN, or of its UNBLOCK PIN
 abbrev pub tries_by : Guard → Pin → ℕ
 tries_by OfPin pin = pin.tries
 tries_by OfUnblock pin = pin.unblock_tries
 
+-- the PIN with one try less of its own, or of its UNBLOCK PIN
 abbrev pub with_one_less : Guard → Pin → Pin
 with_one_less OfPin pin = record pin { tries = pin.tries - 1 }
 with_one_less OfUnblock pin = record pin { unblock_tries = pin.unblock_tries - 1 }

@@ -36,6 +36,7 @@ pub record IsLawfulTree (state : Persistent) (channels : List (Option Selection)
   pub still_open : (channel : ℕ) → is_some (slice_index_or channels channel None) ≡ true → is_some (slice_index_or outcome.channels channel None) ≡ true
   pub selected : AreSelected (descriptors_in (last_of state outcome.passed)) outcome.channels
 
+-- the statuses with which a command that makes, deletes or resizes a file may be refused
 abbrev pub tree_refusals : List StatusWord
 tree_refusals =
     WRONG_PARAMETERS ∷ WRONG_LENGTH ∷ FILE_NOT_FOUND ∷ WRONG_STRUCTURE ∷ CONDITIONS_NOT_SATISFIED ∷ SECURITY_NOT_SATISFIED ∷ WRONG_DATA ∷ FILE_ALREADY_THERE ∷ NO_ROOM ∷ []

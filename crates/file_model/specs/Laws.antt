@@ -70,6 +70,7 @@ abbrev pub file_refusals : List StatusWord
 file_refusals =
     WRONG_PARAMETERS ∷ WRONG_LENGTH ∷ FILE_NOT_FOUND ∷ NO_CURRENT_FILE ∷ WRONG_STRUCTURE ∷ CONDITIONS_NOT_SATISFIED ∷ SECURITY_NOT_SATISFIED ∷ WRONG_OFFSET ∷ RECORD_NOT_FOUND ∷ OVERFLOW ∷ []
 
+-- a status with which a command on files may be refused: one of the list, or 6CXX
 abbrev pub IsFileRefusal : StatusWord → Type 0
 IsFileRefusal status = Contains file_refusals status ⊎ ((width : ℕ) × (width ≤ 255) × (status ≡ other_length width))
 
@@ -116,6 +117,7 @@ pub record IsLawfulPinOutcome (state : Persistent) (verified : Verified) (key : 
 abbrev pub pin_refusals : List StatusWord
 pin_refusals = WRONG_PARAMETERS ∷ WRONG_LENGTH ∷ REFERENCE_NOT_FOUND ∷ PIN_BLOCKED ∷ PIN_DISABLED ∷ CONDITIONS_NOT_SATISFIED ∷ []
 
+-- on a sound state a PIN command comes to what is lawful, or is refused lawfully
 abbrev pub IsLawfulPinCommand : (List Pin → Verified → Apdu → Result PinOutcome StatusWord) → Type 0
 IsLawfulPinCommand command =
     (state : Persistent) (verified : Verified) (apdu : Apdu) → IsSound state → MatchResult (command state.pins verified apdu) (IsLawfulPinOutcome state verified apdu.p2) (Contains pin_refusals)

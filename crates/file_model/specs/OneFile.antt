@@ -60,6 +60,7 @@ pub record MakesOneFile (before : Persistent) (df : ℕ) (bytes : List ℕ) (aft
   pub one_more : length after.files ≡ length before.files + 1
   pub others : OthersStay file.number before after
 
+-- a CREATE FILE that is carried out makes one file
 abbrev pub CreatesOneFile : Type 0
 CreatesOneFile =
     (state : Persistent) (seen : Verified) (channels : List (Option Selection)) (channel : ℕ) (apdu : Apdu)
@@ -83,6 +84,7 @@ pub record TakesOneFile (before : Persistent) (df id : ℕ) (after : Persistent)
   pub one_less : length after.files + 1 ≡ length before.files
   pub others : OthersStay file.number before after
 
+-- a DELETE FILE that is carried out takes one file
 abbrev pub DeletesOneFile : Type 0
 DeletesOneFile =
     (state : Persistent) (seen : Verified) (channels : List (Option Selection)) (channel : ℕ) (apdu : Apdu)
@@ -104,6 +106,7 @@ pub record FitsOneFile (before : Persistent) (df id size : ℕ) (after : Persist
   pub blank : (k : ℕ) → k < size → length held ≤ k → slice_index bytes k ≡ 0xFF
   pub others : OthersStay file.number before after
 
+-- a RESIZE FILE that is carried out resizes one file
 abbrev pub ResizesOneFile : Type 0
 ResizesOneFile =
     (state : Persistent) (seen : Verified) (channels : List (Option Selection)) (channel : ℕ) (apdu : Apdu)

@@ -37,6 +37,7 @@ abbrev pub settled_file : Selection → Result FileOutcome StatusWord → FileOu
 settled_file selection (Err status) = record { body = []; status = status; selection = selection; passed = [] }
 settled_file selection (Ok outcome) = outcome
 
+-- a refused PIN command answers its status, and changes nothing
 abbrev pub settled_pin : Verified → Result PinOutcome StatusWord → PinOutcome
 settled_pin verified (Err status) = record { status = status; verified = verified; passed = [] }
 settled_pin verified (Ok outcome) = outcome

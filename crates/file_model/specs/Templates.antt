@@ -66,6 +66,7 @@ abbrev pub IsShortRule : Option RuleReference → Type 0
 IsShortRule None = ⊤
 IsShortRule (Some rule) = rule.arr.0 < 2 ^ 16
 
+-- the numbers that are asked for fit into their bytes
 abbrev pub IsInRange : NewFile → Type 0
 IsInRange (Df id) = id.0 < 2 ^ 16
 IsInRange (Ef id shape short rule) = (id.0 < 2 ^ 16) × IsShortRule rule
