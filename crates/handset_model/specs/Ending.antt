@@ -18,6 +18,7 @@ rank Await = 3
 abbrev pub work : ℕ → Duty → ℕ
 work count duty = 4 * (MOST_COMMANDS - count) + rank duty
 
+-- what is left to do in a line, after all that happened
 abbrev pub work_left : List Happened → ℕ
 work_left h = work (commands h) (asked h)
 

@@ -20,6 +20,7 @@ pub data TraceEntry : Type 0 where
 
 -- ---- the next command, reset or note
 
+-- the command, reset or note that a duty is, if it is one
 abbrev pub item_of : Duty → Option PhoneStep
 item_of Rest = None
 item_of (Transmit command) = Some (step.Send (apdu_of command))
