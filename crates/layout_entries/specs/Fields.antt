@@ -14,6 +14,7 @@ use Rattle.layout_entries.specs.Spelling.{node_spelled, pin_spelled, row_spelled
 abbrev pub node_fields : List (ℕ × ℕ)
 node_fields = (0, 1) ∷ (1, 2) ∷ (2, 4) ∷ (4, 5) ∷ (5, 6) ∷ (6, 7) ∷ (7, 8) ∷ (8, 10) ∷ (10, 12) ∷ (12, 14) ∷ (14, 15) ∷ (15, NODE_WIDTH) ∷ []
 
+-- the fields of a PIN slot: key, enabled, the tries of both, and both values
 abbrev pub pin_fields : List (ℕ × ℕ)
 pin_fields = (0, 1) ∷ (1, 2) ∷ (2, 3) ∷ (3, 4) ∷ (4, 12) ∷ (12, PIN_WIDTH) ∷ []
 
@@ -29,6 +30,7 @@ is_among from to first end = nat_le from first && nat_le end to
 abbrev pub is_beside : ℕ → ℕ → ℕ → ℕ → Bool
 is_beside from to first end = nat_le end from || nat_le to first
 
+-- a range has all of a field, or nothing of it
 abbrev pub is_uncut : ℕ → ℕ → ℕ × ℕ → Bool
 is_uncut from to field = is_among from to field.0 field.1 || is_beside from to field.0 field.1
 
@@ -55,6 +57,7 @@ merged_node from to old new = record {
   head = if is_among from to 15 NODE_WIDTH then new.head else old.head;
 }
 
+-- a slot of which the fields in a range are new
 unfoldable pub merged_pin : ℕ → ℕ → PinSlot → PinSlot → PinSlot
 merged_pin from to old new = record {
   key = if is_among from to 0 1 then new.key else old.key;
@@ -65,6 +68,7 @@ merged_pin from to old new = record {
   unblock = if is_among from to 12 PIN_WIDTH then new.unblock else old.unblock;
 }
 
+-- a row of which the fields in a range are new
 unfoldable pub merged_row : ℕ → ℕ → Row → Row → Row
 merged_row from to old new = record {
   used = if is_among from to 0 1 then new.used else old.used;
@@ -90,9 +94,11 @@ overwritten from to new old = patched from (slice_range new from to) old
 unfoldable pub reread_node : List ℕ → ℕ → ℕ → ℕ → Node → Node
 reread_node content number from to node = node_of (overwritten from to (node_spelled node) (node_bytes content number))
 
+-- the slot that is read once the bytes of a range are those of another slot
 unfoldable pub reread_pin : List ℕ → ℕ → ℕ → ℕ → PinSlot → PinSlot
 reread_pin content slot from to pin = pin_of (overwritten from to (pin_spelled pin) (pin_bytes content slot))
 
+-- the row that is read once the bytes of a range are those of another row
 unfoldable pub reread_row : List ℕ → ℕ → ℕ → ℕ → Row → Row
 reread_row content shelf from to row = row_of (overwritten from to (row_spelled row) (row_bytes content shelf)) (bytes_apart content shelf)
 
@@ -100,6 +106,7 @@ reread_row content shelf from to row = row_of (overwritten from to (row_spelled 
 abbrev pub node_there : List ℕ → ℕ → Node
 node_there content number = node_of (node_bytes content number)
 
+-- the slot that a memory has
 abbrev pub pin_there : List ℕ → ℕ → PinSlot
 pin_there content slot = pin_of (pin_bytes content slot)
 
@@ -107,8 +114,10 @@ pin_there content slot = pin_of (pin_bytes content slot)
 abbrev pub shown_node : Node → Node
 shown_node node = if node.used then node else unused_node
 
+-- a slot without a key is the empty one
 abbrev pub shown_pin : PinSlot → PinSlot
 shown_pin pin = if pin.key == 0 then absent_pin else pin
 
+-- a row that is not used is the empty one
 abbrev pub shown_row : Row → Row
 shown_row row = if row.used then row else unused_row

@@ -15,9 +15,11 @@ use Rattle.layout_entries.specs.Fields.{node_fields, pin_fields, row_fields, Are
 
 -- ---- entries and their bytes
 
+-- the entry of a file is read back from its bytes
 abbrev pub NodesAreReadBack : Type 0
 NodesAreReadBack = (node : Node) → HasNodeRanges node → node_of (node_spelled node) ≡ node
 
+-- the slot of a PIN is read back from its bytes
 abbrev pub PinsAreReadBack : Type 0
 PinsAreReadBack = (pin : PinSlot) → HasPinRanges pin → pin_of (pin_spelled pin) ≡ pin
 
@@ -103,18 +105,21 @@ RereadsOneNode =
     → table_of (after (node_part number node from to) content)
     ≡ record (table_of content) { nodes = slice_set (table_of content).nodes number (shown_node (reread_node content number from to node)) }
 
+-- after a commit of any bytes of a slot the table has the slot that these spell, and else is as it was
 abbrev pub RereadsOnePin : Type 0
 RereadsOnePin =
     (content : List ℕ) (slot from to : ℕ) (pin : PinSlot) → length content ≡ memory_size → slot < PIN_COUNT → from ≤ to → to ≤ PIN_WIDTH → HasPinRanges pin
     → table_of (after (pin_part slot pin from to) content)
     ≡ record (table_of content) { pins = slice_set (table_of content).pins slot (shown_pin (reread_pin content slot from to pin)) }
 
+-- after a commit of any bytes of a row the table has the row that these spell, and else is as it was
 abbrev pub RereadsOneRow : Type 0
 RereadsOneRow =
     (content : List ℕ) (shelf from to : ℕ) (row : Row) → length content ≡ memory_size → shelf < row_count (is_wide content) → from ≤ to → to ≤ ROW_WIDTH
     → table_of (after (row_part shelf row from to) content)
     ≡ record (table_of content) { rows = slice_set (table_of content).rows shelf (shown_row (reread_row content shelf from to row)) }
 
+-- after a commit of the next sequence number the table has that, and else is as it was
 abbrev pub ChangesSequence : Type 0
 ChangesSequence =
     (content : List ℕ) (next : ℕ) → length content ≡ memory_size → next < 2 ^ 16 → table_of (after (sequence_part next) content) ≡ record (table_of content) { next = next }

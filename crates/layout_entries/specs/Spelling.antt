@@ -33,12 +33,15 @@ row_spelled row =
 abbrev pub part_of : ℕ → List ℕ → ℕ → ℕ → Piece
 part_of place spelled from to = record { place = place + from; bytes = slice_range spelled from to }
 
+-- a range of the bytes of a file's entry, as a piece of a commit
 abbrev pub node_part : ℕ → Node → ℕ → ℕ → Piece
 node_part number node from to = part_of (node_place number) (node_spelled node) from to
 
+-- a range of the bytes of a PIN slot, as a piece of a commit
 abbrev pub pin_part : ℕ → PinSlot → ℕ → ℕ → Piece
 pin_part slot pin from to = part_of (pin_place slot) (pin_spelled pin) from to
 
+-- a range of the bytes of a row, as a piece of a commit
 abbrev pub row_part : ℕ → Row → ℕ → ℕ → Piece
 row_part shelf row from to = part_of (row_place shelf) (row_spelled row) from to
 
@@ -50,5 +53,6 @@ kept_part shelf row = record { place = kept_place shelf; bytes = drop KEPT_WIDTH
 abbrev pub version_part : Bool → Piece
 version_part wide = record { place = version_place; bytes = version_of wide ∷ [] }
 
+-- the next sequence number, as a piece of a commit
 abbrev pub sequence_part : ℕ → Piece
 sequence_part next = record { place = sequence_place; bytes = two_bytes next }
