@@ -101,6 +101,7 @@ ChangesBytesApart =
 abbrev pub kept_pieces : ℕ → Row → List Piece
 kept_pieces shelf row = if nat_lt 32 (length row.kept) then kept_part shelf row ∷ [] else []
 
+-- a commit of a whole row, with what it keeps, adds it to table and state
 abbrev pub AddsRow : Type 0
 AddsRow =
     (content : List ℕ) (shelf : ℕ) (row : Row) → IsCard content → shelf < row_count (is_wide content) → HasRowRanges row → length row.kept ≤ kept_limit (is_wide content)
@@ -113,6 +114,7 @@ InstallsRow =
     → Holds (applied (row_part shelf row 0 51 ∷ sequence_part next ∷ kept_pieces shelf row) content) (record (with_row (table_of content) shelf row) { next = next })
     (record (with_row_on (state_in content) shelf (registration_if shelf row)) { next_sequence = next })
 
+-- a commit of the next sequence number changes that of table and state
 abbrev pub ChangesNextSequence : Type 0
 ChangesNextSequence =
     (content : List ℕ) (next : ℕ) → IsCard content → next < 2 ^ 16

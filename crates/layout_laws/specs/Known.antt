@@ -27,16 +27,19 @@ StandingIsOfTable =
 
 -- ---- entries that are used
 
+-- each used entry is that of a file of the state
 abbrev pub NodesAreFiles : Type 0
 NodesAreFiles =
     (store_mark : ℕ) (content : List ℕ) (table : Loaded) (state : Persistent) (number : ℕ) (node : Node)
     → Stands store_mark content table state → HasNode table number node → IsFileEntry content table state number node
 
+-- each slot with a key is that of a PIN of the state
 abbrev pub SlotsArePins : Type 0
 SlotsArePins =
     (store_mark : ℕ) (content : List ℕ) (table : Loaded) (state : Persistent) (slot : ℕ) (pin : PinSlot)
     → Stands store_mark content table state → HasPin table slot pin → IsPinEntry state slot pin
 
+-- each used row is that of a registered applet of the state
 abbrev pub RowsAreRegistrations : Type 0
 RowsAreRegistrations =
     (store_mark : ℕ) (content : List ℕ) (table : Loaded) (state : Persistent) (shelf : ℕ) (row : Row)
@@ -44,16 +47,19 @@ RowsAreRegistrations =
 
 -- ---- what the state has under a number, a key, on a shelf: what the entry stands for, or nothing where it is not used
 
+-- the state has under a number the file of the entry, where that is used
 abbrev pub FileOfNumber : Type 0
 FileOfNumber =
     (store_mark : ℕ) (content : List ℕ) (table : Loaded) (state : Persistent) (number : ℕ)
     → Stands store_mark content table state → file_with_number state number ≡ option_and_then (file_if content number) (slice_get table.nodes number)
 
+-- the state has under a key the PIN of its slot, where there is one
 abbrev pub PinOfKey : Type 0
 PinOfKey =
     (store_mark : ℕ) (content : List ℕ) (table : Loaded) (state : Persistent) (slot : ℕ)
     → Stands store_mark content table state → slot < 3 → pin_with_key state (key_of_slot slot) ≡ option_and_then pin_if (slice_get table.pins slot)
 
+-- the state has on a shelf the applet of the row, where that is used
 abbrev pub RowOfShelf : Type 0
 RowOfShelf =
     (store_mark : ℕ) (content : List ℕ) (table : Loaded) (state : Persistent) (shelf : ℕ)

@@ -33,6 +33,7 @@ pub record IsFileNumbered (state : Persistent) (number : ℕ) (file : File) : Ty
 
 -- ---- entries that are used: each stands for a file, a PIN or a row of the state
 
+-- the entry is that of a file of the state
 pub record IsFileEntry (content : List ℕ) (table : Loaded) (state : Persistent) (number : ℕ) (node : Node) : Type 0 where
   pub low : number < 128
   pub there : Contains state.files (file_of content number node)
@@ -41,12 +42,14 @@ pub record IsFileEntry (content : List ℕ) (table : Loaded) (state : Persistent
   pub lies : LiesAmongFiles table.wide node
   pub head : HasRightHead node
 
+-- the slot is that of a PIN of the state
 pub record IsPinEntry (state : Persistent) (slot : ℕ) (pin : PinSlot) : Type 0 where
   pub low : slot < 3
   pub own : pin.key ≡ key_of_slot slot
   pub there : Contains state.pins (pin_state pin)
   pub found : pin_with_key state pin.key ≡ Some (pin_state pin)
 
+-- the row is that of a registered applet of the state
 pub record IsRowEntry (table : Loaded) (state : Persistent) (shelf : ℕ) (row : Row) : Type 0 where
   pub low : shelf < row_count table.wide
   pub there : Contains state.rows (registration_of shelf row)

@@ -34,6 +34,7 @@ ChangedFileStands =
     → Stands store_mark content table state → IsFileChange table number from to old new
     → StandsIfSound store_mark (after (node_part number new from to) content) (with_node table number new) (with_file_at state number (file_if content number new))
 
+-- after a commit of a whole entry the memory stands for the state with that file, where this is sound
 abbrev pub AddedFileStands : Type 0
 AddedFileStands =
     (store_mark : ℕ) (content : List ℕ) (table : Loaded) (state : Persistent) (number : ℕ) (node : Node)
@@ -65,6 +66,7 @@ RereadFileStands =
 
 -- ---- PINs
 
+-- after a commit of some fields of a slot the memory stands for the state with that PIN changed
 abbrev pub ChangedPinStands : Type 0
 ChangedPinStands =
     (store_mark : ℕ) (content : List ℕ) (table : Loaded) (state : Persistent) (slot from to : ℕ) (old new : PinSlot)
@@ -88,6 +90,7 @@ RereadPinStands =
 
 -- ---- rows
 
+-- after a commit of some fields of a row the memory stands for the state with that row changed, where this is sound
 abbrev pub ChangedRowStands : Type 0
 ChangedRowStands =
     (store_mark : ℕ) (content : List ℕ) (table : Loaded) (state : Persistent) (shelf from to : ℕ) (old new : Row)
@@ -161,6 +164,7 @@ RereadRowStands =
     → (let new = reread_row content shelf from to row in
     StandsForNoOther store_mark (after (row_part shelf row from to) content) (with_row table shelf new) (with_row_on state shelf (registration_if shelf new)))
 
+-- after a commit of a whole row the memory stands for the state with that row, where this is sound
 abbrev pub AddedRowStands : Type 0
 AddedRowStands =
     (store_mark : ℕ) (content : List ℕ) (table : Loaded) (state : Persistent) (shelf : ℕ) (row : Row)

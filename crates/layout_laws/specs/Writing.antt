@@ -14,6 +14,7 @@ use Rattle.layout_laws.specs.Cards.{LiesWhere}
 
 -- ---- some fields of an entry that is used: the new one differs from the old one in no others
 
+-- some whole fields of a file's entry may be written so
 pub record IsFileChange (table : Loaded) (number from to : ℕ) (old new : Node) : Type 0 where
   pub there : HasNode table number old
   pub fields : AreWholeFields node_fields 16 from to
@@ -22,6 +23,7 @@ pub record IsFileChange (table : Loaded) (number from to : ℕ) (old new : Node)
   pub lies : LiesWhere old new ⊎ LiesAmongFiles table.wide new
   pub head : HasRightHead new
 
+-- some whole fields of a PIN's slot may be written so
 pub record IsPinChange (table : Loaded) (slot from to : ℕ) (old new : PinSlot) : Type 0 where
   pub there : HasPin table slot old
   pub fields : AreWholeFields pin_fields 20 from to
@@ -42,6 +44,7 @@ pub record IsRowChange (table : Loaded) (shelf from to : ℕ) (old new : Row) : 
 
 -- ---- a whole entry, whatever stood there
 
+-- a whole entry of a file may be written so
 pub record IsWholeFile (wide : Bool) (number : ℕ) (node : Node) : Type 0 where
   pub low : number < 128
   pub ranges : HasNodeRanges node
@@ -56,6 +59,7 @@ pub record IsWholePin (slot : ℕ) (pin : PinSlot) : Type 0 where
   pub tries : pin.tries ≤ 3
   pub unblock_tries : pin.unblock_tries ≤ 10
 
+-- a whole row may be written so
 pub record IsWholeRow (wide : Bool) (shelf : ℕ) (row : Row) : Type 0 where
   pub low : shelf < row_count wide
   pub ranges : HasRowRanges row
