@@ -4,6 +4,7 @@ use Rattle.store_form.specs.declared.store.StoreFault.TheVariants as store
 use Rattle.layout_mount.specs.declared.mounting.MountFault.{MountFault}
 use Rattle.layout_mount.specs.declared.mounting.MountFault.TheVariants as mount
 
+-- the store failed, or power was lost
 abbrev pub mount_fault : StoreFault → MountFault
 mount_fault store.Failed = mount.Failed
 mount_fault store.PowerLost = mount.PowerLost

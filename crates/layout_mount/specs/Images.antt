@@ -13,6 +13,7 @@ filler count = replicate count 255
 unfoldable pub whole : List ℕ → List ℕ → List ℕ → List ℕ
 whole first table upper = first ++ filler (PINS - 8) ++ table ++ filler (UPPER_ROWS - DATA) ++ upper
 
+-- the memory that the parts which were read stand for
 abbrev pub image_of : Inside → List ℕ
 image_of inside = whole inside.first inside.table inside.upper
 
