@@ -20,6 +20,7 @@ abbrev pub Adds : Result Persistent SectionFault → Persistent → Result (Unit
 Adds (Ok state) old result new = (result ≡ Ok tt) × (new ≡ state)
 Adds (Err fault) old result new = (result ≡ Err fault) × (new ≡ old)
 
+-- a call adds what its line says, or answers the line's fault and changes nothing
 abbrev pub AddsLine : SectionLine → Persistent → Result (Unit {0}) SectionFault → Persistent → Type 0
 AddsLine line old result new = Adds (line_added old line) old result new
 
@@ -30,6 +31,7 @@ Changes false changed old result new = (result ≡ Err Bad) × (new ≡ old)
 
 -- ---- PINs
 
+-- a PIN with 3 tries and 10 for its UNBLOCK PIN
 abbrev pub new_pin : ℕ → List ℕ → Bool → List ℕ → Pin
 new_pin key value enabled unblock = record { key = key; is_enabled = enabled; tries = 3; unblock_tries = 10; value = value; unblock = unblock }
 
@@ -37,19 +39,23 @@ new_pin key value enabled unblock = record { key = key; is_enabled = enabled; tr
 abbrev pub may_have_pin : ℕ → Bool → Bool
 may_have_pin key enabled = is_key key && (enabled || not (key == ADM_1))
 
+-- the slot of a key, where a PIN with it may be so
 pub record IsSlotFor (key : ℕ) (enabled : Bool) (slot : ℕ) : Type 0 where
   pub low : slot < 3
   pub own : key ≡ key_of_slot slot
   pub may : (enabled || not (key == ADM_1)) ≡ true
 
+-- a PIN that a section may take: of one of the three keys, of which it has none; ADM1 is always enabled
 abbrev pub is_new_pin : List Pin → Pin → Bool
 is_new_pin pins pin = is_key pin.key && not (list_any (λ other. other.key == pin.key) pins) && (pin.is_enabled || not (pin.key == ADM_1))
 
+-- a PIN is added, or Bad is answered and nothing changes
 abbrev pub AddsPin : Pin → List Pin → Result (Unit {0}) SectionFault → List Pin → Type 0
 AddsPin pin old result new = Changes (is_new_pin old pin) (with_pin old pin) old result new
 
 -- ---- rows
 
+-- the registered applets, and the next sequence number
 pub record RowList : Type 0 where
   pub list : List Registration
   pub next : ℕ
@@ -85,9 +91,11 @@ abbrev pub is_short_for : List File → ℕ → ℕ → Bool
 is_short_for files df short =
     nat_le short 30 && (short == 0 || not (list_any (λ file. is_ef_kind file.kind && file.parent == df && file.short == short) files))
 
+-- a new DF with this number
 abbrev pub df_numbered : ℕ → ℕ → FileId → File
 df_numbered number parent id = record mf { number = number; parent = parent; id = id.0 }
 
+-- a new EF with the next number
 abbrev pub ef_numbered : List File → ℕ → FileId → Shape → ℕ → Option Rule → File
 ef_numbered files parent id shape short rule = record {
   number = length files;

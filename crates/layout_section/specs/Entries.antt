@@ -6,6 +6,7 @@ use Rattle.card_state.specs.Blank.{unused_node}
 use Rattle.card_state.specs.Kinds.{df_kind, transparent_kind, is_ef_kind}
 use Rattle.card_state.specs.Places.{data_place}
 
+-- a file lies in this DF and has this identifier
 abbrev pub is_child : ℕ → FileId → Node → Bool
 is_child df id node = node.parent == df && node.id.0 == id.0
 
@@ -13,12 +14,14 @@ is_child df id node = node.parent == df && node.id.0 == id.0
 abbrev pub HasNoChild : ℕ → FileId → List Node → ℕ → Type 0
 HasNoChild df id nodes end = (k : ℕ) → 1 ≤ k → k < end → is_child df id (slice_index_or nodes k unused_node) ≡ false
 
+-- the first file of this DF with this identifier
 pub record IsFirstChild (df : ℕ) (id : FileId) (nodes : List Node) (number : ℕ) : Type 0 where
   pub some : 1 ≤ number
   pub low : number < length nodes
   pub here : is_child df id (slice_index_or nodes number unused_node) ≡ true
   pub before : HasNoChild df id nodes number
 
+-- an EF lies in this DF and has this short file identifier
 abbrev pub has_short : ℕ → ℕ → Node → Bool
 has_short df short node = is_ef_kind node.kind && node.parent == df && node.short == short
 

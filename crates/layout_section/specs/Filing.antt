@@ -34,9 +34,11 @@ file_in bytes number node = record {
   contents = contents_in (bytes_at bytes (node.place - data_place) node.size) node;
 }
 
+-- the files that these entries stand for
 abbrev pub files_in : List ℕ → List Node → List File
 files_in bytes nodes = map (λ entry. file_in bytes entry.0 entry.1) (enumerate_from 0 nodes)
 
+-- the files of a section
 abbrev pub files_of : Inside → List File
 files_of inside = files_in inside.bytes.items (take inside.count inside.nodes)
 
@@ -62,6 +64,7 @@ pub record IsEfBehind (before : ℕ) (node : Node) : Type 0 where
   pub head : node.head ≡ 0
   pub records : IsTrue (has_records node.kind) → HasRecords node
 
+-- an entry is that of a DF, or of an EF whose bytes come after so many
 abbrev pub IsNodeBehind : ℕ → Node → Type 0
 IsNodeBehind before node = (node ≡ df_node node.parent node.id) ⊎ IsEfBehind before node
 
@@ -78,6 +81,7 @@ pub record AreFilesOf (nodes : List Node) (bytes : List ℕ) (total : ℕ) : Typ
       → has_own_short (take k nodes) (slice_index_or nodes k unused_node) ≡ true
   pub ranges : (k : ℕ) → k < length nodes → HasNodeRanges (slice_index_or nodes k unused_node)
 
+-- the entries and bytes that a section keeps stand for files
 pub record AreFiles (inside : Inside) : Type 0 where
   pub few : inside.count ≤ NODE_COUNT
   pub table : length inside.nodes ≡ NODE_COUNT

@@ -8,6 +8,7 @@ use Rattle.card_state.specs.Persistent.{Registration}
 use Rattle.card_state.specs.Sections.{is_call_control, has_text}
 use Rattle.card_state.specs.declared.installation.Installed.{Installed}
 
+-- an installation registers for call control
 abbrev pub answers_calls : Installed → Bool
 answers_calls installed = bit_at installed.events call_control_bit == 1
 

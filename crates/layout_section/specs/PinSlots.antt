@@ -23,9 +23,11 @@ abbrev pub AreSlotsOf : List PinSlot → Type 0
 AreSlotsOf slots =
     (k : ℕ) → k < PIN_COUNT → (slice_index_or slots k absent_pin ≡ absent_pin) ⊎ IsNewPin (key_of_slot k) (slice_index_or slots k absent_pin)
 
+-- the slots that a section keeps stand for PINs
 abbrev pub AreSlots : Inside → Type 0
 AreSlots inside = AreSlotsOf inside.slots
 
+-- the PINs of a section
 abbrev pub pins_of : Inside → List Pin
 pins_of inside = map pin_state (present_pins inside.slots)
 

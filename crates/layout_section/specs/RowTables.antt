@@ -12,9 +12,11 @@ use Rattle.layout_entries.specs.Spelling.{row_spelled}
 use Rattle.layout_section.specs.Adding.{RowList}
 use Rattle.layout_section.specs.declared.rows.Rows.TheInside.{Inside}
 
+-- an applet is registered there
 abbrev pub is_used : Row → Bool
 is_used row = row.used
 
+-- an applet is registered there for call control
 abbrev pub controls : Row → Bool
 controls row = row.used && is_call_control row
 
@@ -49,9 +51,11 @@ pub record AreRowsOf (rows : List Row) (next : ℕ) : Type 0 where
       → (slice_index_or rows k unused_row).used ≡ true
       → (slice_index_or rows j unused_row).sequence ≡ (slice_index_or rows k unused_row).sequence → ⊥
 
+-- the rows that a section keeps stand for registered applets
 abbrev pub AreRows : Inside → Type 0
 AreRows inside = AreRowsOf inside.rows inside.next
 
+-- the applets that are registered in a section, and the next sequence number
 abbrev pub rows_of : Inside → RowList
 rows_of inside = record { list = map (λ entry. registration_of entry.0 entry.1) (used_rows inside.rows); next = inside.next }
 
