@@ -40,6 +40,7 @@ step walk byte =
     if byte == 10 then record { head = []; counts = counts_with walk.head walk.counts }
     else record { head = grown walk.head byte; counts = walk.counts }
 
+-- before the first byte of a trace
 abbrev pub start : Walk
 start = record { head = []; counts = record { commands = 0; fetches = 0; responses = 0; envelopes = 0; busy = 0 } }
 
