@@ -14,6 +14,7 @@ use Rattle.page_store.specs.Tables.{Kept, moved, IsPool}
 abbrev pub touches : ℕ → Piece → Bool
 touches page piece = nat_lt (PAGE_LENGTH * page) (piece.place + length piece.bytes) && nat_lt piece.place (PAGE_LENGTH * page + PAGE_LENGTH)
 
+-- a commit of these pieces touches the page
 abbrev pub is_touched : List Piece → ℕ → Bool
 is_touched pieces page = list_any (touches page) pieces
 
@@ -25,6 +26,7 @@ bytes_of_page held page = slice_range held (PAGE_LENGTH * page) (PAGE_LENGTH * p
 abbrev pub first_page : Piece → ℕ
 first_page piece = piece.place / PAGE_LENGTH
 
+-- the page after the last that a piece touches
 abbrev pub end_page : Piece → ℕ
 end_page piece = (piece.place + length piece.bytes - 1) / PAGE_LENGTH + 1
 

@@ -11,10 +11,12 @@ use Rattle.update_journal.specs.Journal.{stable_of, stable}
 use Rattle.update_journal.specs.Laws.{stable_own, length-stable_of}
 use Rattle.page_store.specs.Pages.{number_at, entries_of, is_in_pool, is_among, is_right, is_well_formed, map_of, place_of, through, content_of, content}
 
+-- what is read through a map has 65,536 bytes
 pub length-through : (pages image : List ℕ) → length (through pages image) ≡ 65536
 unfolding through
 length-through pages image = length-map-range_with_len (λ k. slice_index image (place_of pages k)) 0 65536
 
+-- each byte that is read through a map is the one at its place on the device
 pub get_or-through : (pages image : List ℕ) (k : ℕ) → k < 65536 → get_or (through pages image) k 0 ≡ get_or image (place_of pages k) 0
 unfolding through
 get_or-through pages image k low = get_or-map-range_with_len (λ k. slice_index image (place_of pages k)) 0 65536 k k 0 low (zero-add k)
@@ -28,6 +30,7 @@ length_if : (b : Bool) (pages image : List ℕ) → length (if b then through pa
 length_if true pages image = length-through pages image
 length_if false pages image = length-replicate {A = ℕ} 65536 255
 
+-- the content of each image has 65,536 bytes
 pub length-content_of : (image : List ℕ) → length (content_of image) ≡ 65536
 unfolding content_of
 length-content_of image = length_if (is_well_formed (map_of image)) (map_of image) image
@@ -75,6 +78,7 @@ pub told_content : (told : Option (List ℕ)) → IfSome (content told) (λ held
 told_content None = tt
 told_content (Some image) = length-content_of image
 
+-- bytes 64 to 831 of the content are FF
 pub told_own : (told : Option (List ℕ)) (k : ℕ) → 64 ≤ k → k < 832 → IfSome (content (stable told)) (λ held. slice_index held k ≡ 255)
 told_own None k low high = tt
 told_own (Some image) k low high = own_of image k low high

@@ -14,6 +14,7 @@ IsKnown Nothing told = Unit {0}
 IsKnown Blank told = IfSome told (λ image. is_well_formed (map_of image) ≡ false)
 IsKnown (Mapped kept) told = IsKept kept told
 
+-- it was read whether there is a map
 abbrev pub is_known : Known → Bool
 is_known Nothing = false
 is_known Blank = true
