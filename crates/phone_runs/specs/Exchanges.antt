@@ -25,6 +25,7 @@ pub record ReadsDetails (command : Proactive) (number : ℕ) : Type 0 where
   pub found : details_found (spelled command number) ≡ details_of command number
   pub read : (read : Details × Proactive) → proactive_of (spelled command number) ≡ Ok read → read.0 ≡ details_of command number
 
+-- A handset finds the details in the bytes of each command of at most 255 bytes.
 abbrev pub DetailsAreRead : Type 0
 DetailsAreRead = (command : Proactive) (number : ℕ) → length (spelled command number) ≤ 255 → ReadsDetails command number
 
@@ -55,6 +56,7 @@ pub record IsFetched (card : CardState) (size : ℕ) : Type 0 where
   pub waits : unfetched card.session ≡ Some out
   pub gives : GivesCommand out (answer card (apdu_of (Fetch size)))
 
+-- A command that a card announced is fetched by as many bytes as it has.
 abbrev pub AnnouncedCommandsAreFetched : Type 0
 AnnouncedCommandsAreFetched = (card : CardState) (size : ℕ) → CanServe card → Announces card size → IsFetched card size
 

@@ -38,6 +38,7 @@ pub record Begins (given : Beginning) (now : Moment) : Type 0 where
   pub waits : now.waiting ≡ NONE
   pub rests : Rests given.first [] now.is_due
 
+-- what a line of the script is for the handset
 abbrev pub IsEffect : ScriptLine → PhoneEffect → Type 0
 IsEffect line Nothing = (may_be_heard line ≡ true) × (phone_lines_of line ≡ [])
 IsEffect line (Takes move) = (may_be_heard line ≡ true) × (phone_lines_of line ≡ line_of move ∷ [])
