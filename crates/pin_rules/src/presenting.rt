@@ -1,4 +1,4 @@
-//! A value is presented: first a try is taken and committed, and only then is the value compared (ETSI TS 102 221, 9.5).
+//! A value is presented (ETSI TS 102 221, 11.1.9 to 11.1.13). That a try is taken and committed before the value is compared is this card's own rule.
 ghost use Rattle.std.specs.Prelude.{◌≡◌, ◌≤◌, length};
 ghost use Rattle.card_state.specs.Memory.{IsMounted, memory};
 ghost use Rattle.card_state.specs.States.{pins_of};
