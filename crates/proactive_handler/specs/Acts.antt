@@ -21,6 +21,7 @@ use Rattle.proactive_handler.specs.declared.endings.Reply.{Reply}
 use Rattle.proactive_handler.specs.declared.endings.Reply.TheVariants.{Went as ItWent, Refused as WasRefused, Timer as GotTimer}
 use Rattle.proactive_handler.specs.Counting.{Counts}
 
+-- what stays the same in a run, as the definitions have it
 abbrev pub setting_of : GivenSetting → Setting
 setting_of at = record { shelf = at.shelf.0; profile = at.profile; in_call = at.in_call }
 
@@ -66,6 +67,7 @@ pub record Stage : Type 0 where
   pub timers : Owners
   pub mind : AppletState
 
+-- the memory, the timers and the mind that an act is done over
 abbrev pub stage : Memory → Owners → AppletState → Stage
 stage memory timers mind = record { memory = memory; timers = timers; mind = mind }
 
@@ -94,6 +96,7 @@ pub record IsActStopped (at : Setting) (does : Act) (old new : Stage) : Type 0 w
       ⊎ (held new.memory ≡ option_map (with_these_rows (carried at does (works_at old)).works.rows) (held old.memory))
   pub commits : new.memory.commits ≡ old.memory.commits
 
+-- what an act comes to after Ok, or where a fault stops it
 abbrev pub Carries : Setting → Act → Stage → Stage → Result Next StoreFault → Type 0
 Carries at does old new (Ok next) = IsCarriedOut at does old new (after does next)
 Carries at does old new (Err fault) = IsActStopped at does old new

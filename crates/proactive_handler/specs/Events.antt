@@ -12,5 +12,6 @@ is_heard lists code = not (length (targets_in lists code) == 0)
 abbrev pub is_asked_for : List ℕ → List (List ℕ) → ℕ → Bool
 is_asked_for profile lists code = is_heard lists code && allowed_event profile code
 
+-- the events that an index asks the handset for, by its profile
 abbrev pub events_in : List ℕ → List (List ℕ) → List ℕ
 events_in profile lists = filter (is_asked_for profile lists) download_codes

@@ -18,6 +18,7 @@ pub record Scene : Type 0 where
   pub session : SessionState
   pub minds : List (Option AppletState)
 
+-- a card's memory, the index of its rows, its session and the minds in its boxes
 abbrev pub scene : Memory → List (List ℕ) → SessionState → List (Option AppletState) → Scene
 scene memory index session minds = record { memory = memory; index = index; session = session; minds = minds }
 
