@@ -47,6 +47,7 @@ with_plan_set end = record { parts = record end.parts { meter = planned end.part
 abbrev pub disarmed : Bool → CardParts → CardParts
 disarmed is_given parts = record parts { meter = unplanned is_given parts.meter }
 
+-- an end whose plan was taken back, where one was given
 abbrev pub without_plan : Bool → End → End
 without_plan is_given end = record end { parts = disarmed is_given end.parts }
 

@@ -28,6 +28,7 @@ use Rattle.run_steps.specs.declared.steps.StepEnd.TheVariants.{SinkFailed, Reset
 abbrev pub machine_of : CardParts → Option Machine
 machine_of parts = option_map (λ card. record { card = card; on = parts.is_on }) (card_of parts)
 
+-- where a card stands, with what the sink has taken and the plan that waits
 abbrev pub moment : CardParts → Option (List ℕ) → Plan → Moment
 moment parts taken waiting = record { machine = machine_of parts; held = held_by parts; is_on = parts.is_on; taken = taken; meter = parts.meter; boxes = parts.boxes; is_due = parts.is_due; waiting = waiting }
 

@@ -10,6 +10,7 @@ pub record Tally : Type 0 where
   pub sink : ℕ
   pub taken : Option (List ℕ)
 
+-- what is counted at a card and a sink
 abbrev pub tally : {W : Type 0} → SinkWords W → End → W → Tally
 tally words end trace = record { memory = end.parts.meter.faults; sink = words.faults trace; taken = words.taken trace }
 
