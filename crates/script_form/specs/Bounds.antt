@@ -20,6 +20,7 @@ pub record IsBoundedPath (path : List FileId) : Type 0 where
 abbrev pub IsBoundedShort : Option ℕ → Type 0
 IsBoundedShort short = IfSome short (λ s. (1 ≤ s) × (s ≤ 30))
 
+-- a rule names a record from 1 to 254 of its EF_ARR
 abbrev pub IsBoundedRule : Option (FileId × ℕ) → Type 0
 IsBoundedRule rule = IfSome rule (λ r. (1 ≤ r.1) × (r.1 ≤ 254))
 
