@@ -13,9 +13,11 @@ use Rattle.script_reader.specs.declared.reader.ScriptReader.{ScriptReader}
 abbrev pub reading : ScriptReader → Reading
 reading script = script.reader
 
+-- how many lines were read
 abbrev pub line_count : ScriptReader → ℕ
 line_count script = script.number
 
+-- how many bytes the lines to come may take up
 abbrev pub room_of : ScriptReader → ℕ
 room_of script = script.reader.room
 
