@@ -9,6 +9,7 @@ use Rattle.section_lines.specs.Script.{with_lines}
 abbrev pub IsOfItsBox : List (Option AppletState) → Registration → Type 0
 IsOfItsBox cast row = kind_on cast row.shelf ≡ Some row.kind
 
+-- each registered applet is of the kind of the box on its shelf
 abbrev pub AreOfTheirBoxes : List (Option AppletState) → Persistent → Type 0
 AreOfTheirBoxes cast state = All (IsOfItsBox cast) state.rows
 
