@@ -4,9 +4,11 @@ use Rattle.store_form.specs.declared.writes.Span.{Span}
 use Rattle.store_form.specs.declared.writes.TheConstants.{MOST_PIECES, MOST_BYTES}
 use Rattle.store_form.specs.Pieces.{Piece, byte_total}
 
+-- the piece that a span of the bytes is
 abbrev pub piece_of : List ℕ → Span → Piece
 piece_of bytes span = record { place = span.place; bytes = slice_range bytes span.start span.end }
 
+-- the pieces of a list of writes
 unfoldable pub pieces_of : List ℕ → List Span → List Piece
 pieces_of bytes spans = map (piece_of bytes) spans
 
