@@ -11,6 +11,7 @@ use Rattle.t0_link.specs.Linking.{Linked, Course, Answers, Passes, link_answer, 
 
 -- ---- which commands the link carries
 
+-- whether a command can be sent as a TPDU of this sort
 abbrev pub is_carried_by : Transfer → Apdu → Bool
 is_carried_by GetResponse command = false
 is_carried_by Outgoing command = length command.body == 0 && (is_some command.expected || command.ins == STATUS)
@@ -20,6 +21,7 @@ is_carried_by Incoming command = true
 abbrev pub is_carried : Apdu → Bool
 is_carried command = is_carried_by (transfer_of command.ins command.p1) command
 
+-- some bytes are a command that the link carries
 abbrev pub is_some_carried : Option Apdu → Bool
 is_some_carried None = false
 is_some_carried (Some command) = is_carried command
@@ -36,11 +38,13 @@ p3_for GetResponse command = unwrap_or command.expected 0 % 256
 p3_for Outgoing command = unwrap_or command.expected 0 % 256
 p3_for Incoming command = length command.body
 
+-- the TPDU of a command
 abbrev pub tpdu_of : Apdu → List ℕ
 tpdu_of command = command.class ∷ command.ins ∷ command.p1 ∷ command.p2 ∷ p3_for (transfer_of command.ins command.p1) command ∷ command.body
 
 -- ---- what the terminal makes of the link's answer
 
+-- an answer whose data are cut to Le, where there is one
 abbrev pub cut_answer_to : Option ℕ → Answer → Answer
 cut_answer_to expected answer = record answer { body = cut_to expected answer.body }
 

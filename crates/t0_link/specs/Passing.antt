@@ -15,6 +15,7 @@ passed_by GetResponse command = []
 passed_by Outgoing command = command.class ∷ command.ins ∷ command.p1 ∷ command.p2 ∷ unwrap_or command.expected 0 % 256 ∷ []
 passed_by Incoming command = command.class ∷ command.ins ∷ command.p1 ∷ command.p2 ∷ data_field command.body
 
+-- the APDU that the link passes for a command
 abbrev pub passed_apdu : Apdu → List ℕ
 passed_apdu command = passed_by (transfer_of command.ins command.p1) command
 

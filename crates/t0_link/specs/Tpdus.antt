@@ -35,6 +35,7 @@ is_passed_by (Some GetResponse) = false
 is_passed_by (Some Outgoing) = true
 is_passed_by (Some Incoming) = true
 
+-- the link passes an APDU for this TPDU, and doesn't answer by itself
 abbrev pub is_passed : List ℕ → Bool
 is_passed tpdu = is_passed_by (transfer_in tpdu)
 
