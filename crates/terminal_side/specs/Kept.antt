@@ -21,6 +21,7 @@ use Rattle.handset_model.specs.Timers.{seconds_of}
 use Rattle.handset_model.specs.History.{Happened, Sent, Noted, known, kind_of, as_held, brought, with_command, menu_by, listed_by, listed_after, none_listed, held_by, held_after, announced_by, refreshed_by, place_by, span_of, moment_after, lets_time_pass, ends_all, clock}
 use Rattle.handset_model.specs.Rules.{asked, said_at, answered, answered_at, fetched, noted}
 
+-- what a handset keeps: what it knows, and what is asked of it next
 pub record Kept : Type 0 where
   pub known : Known
   pub asked : Duty
@@ -39,18 +40,21 @@ unstarted = record { known = known []; asked = Rest }
 abbrev pub with_timer : ℕ → Option Running → List (Option Running) → List (Option Running)
 with_timer timer slot timers = if timer == 0 then timers else slice_set timers (timer - 1) slot
 
+-- the timers after a TIMER MANAGEMENT that was carried out at this moment
 abbrev pub timers_by : ℕ → Proactive → List (Option Running) → List (Option Running)
 timers_by now (TimerManagement action timer value) timers =
     if action == START then with_timer timer (Some (record { due = now + seconds_of value; value = value })) timers
     else (if action == DEACTIVATE then with_timer timer None timers else timers)
 timers_by now _ timers = timers
 
+-- the timers after what was sent: one that was reported has expired
 abbrev pub timers_after : Command → List (Option Running) → List (Option Running)
 timers_after (Tell (Expired timer value due)) timers = with_timer timer None timers
 timers_after _ timers = timers
 
 -- ---- what is known, moved on
 
+-- what is known once a line was given
 unfoldable pub with_line : HandsetLine → Known → Known
 with_line line known = record known {
   place = place_by line known.place;
@@ -61,6 +65,7 @@ with_line line known = record known {
   commands = 0;
 }
 
+-- what is known once a command was sent
 unfoldable pub with_sent : Command → Known → Known
 with_sent command known = record known {
   listed = listed_after command known.listed;
@@ -81,15 +86,18 @@ with_found found known = record known {
   is_refreshed = with_command refreshed_by found known.is_refreshed;
 }
 
+-- what the status of an answer tells
 unfoldable pub with_status : Answer → Known → Known
 with_status answer known = record known {
   announced = announced_by answer;
   is_silent = ends_all answer known.commands || known.is_silent;
 }
 
+-- what is known once an answer came
 unfoldable pub with_answer : Answer → Known → Known
 with_answer answer known = with_status answer (with_found (brought known.last_sent answer) known)
 
+-- what is left once the card was reset
 unfoldable pub with_reset : Known → Known
 with_reset known = record known {
   menu = [];
@@ -101,12 +109,14 @@ with_reset known = record known {
 
 -- ---- what is kept, moved on by each call
 
+-- a handset that is given a line
 abbrev pub hearing : HandsetLine → Kept → Kept
 hearing line old = record {
   known = with_line line old.known;
   asked = said_at old.known.is_silent line (with_line line old.known);
 }
 
+-- a handset that is given an answer of the card
 abbrev pub hearing_answer : Answer → Kept → Kept
 hearing_answer answer old = record {
   known = with_answer answer old.known;
@@ -137,6 +147,7 @@ abbrev pub shows : Duty → Bool
 shows (Show note) = true
 shows _ = false
 
+-- a handset that did what was asked of it
 abbrev pub doing : Duty → Known → Kept
 doing Rest known = record { known = known; asked = Rest }
 doing (Transmit command) known = record { known = with_sent command known; asked = Await }
@@ -144,14 +155,17 @@ doing Await known = record { known = known; asked = Await }
 doing (Show note) known = record { known = known; asked = noted note known }
 doing ResetCard known = record { known = known; asked = ResetCard }
 
+-- a handset whose card was started, or reset
 abbrev pub starting : Kept → Kept
 starting old = record { known = with_reset old.known; asked = Transmit SelectMf }
 
+-- a handset whose card lost power
 abbrev pub losing_power : Kept → Kept
 losing_power old = record { known = record old.known { is_silent = true }; asked = Rest }
 
 -- ---- what happens by next
 
+-- what happened, with what was asked for done
 abbrev pub then_done : Duty → List Happened → List Happened
 then_done Rest h = h
 then_done (Transmit command) h = Sent command ∷ h

@@ -24,10 +24,12 @@ text_shown (GetInput text digits least most) = Show (Ask text)
 text_shown (IdleText text) = Show (Idle text)
 text_shown _ = Rest
 
+-- the text of the command that is held, if it shows one
 abbrev pub text_of_held : Option Held → Duty
 text_of_held None = Rest
 text_of_held (Some held) = text_shown held.command
 
+-- what is asked of a handset at each stage
 abbrev pub asked_at : Stage → Duty → Option Held → Duty
 asked_at Resting duty held = Rest
 asked_at Awaiting duty held = Await
