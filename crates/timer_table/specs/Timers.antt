@@ -17,10 +17,12 @@ pub record IsFree (owners : Owners) (timer : ℕ) : Type 0 where
   pub up_to_8 : timer ≤ 8
   pub unheld : owner_of owners timer ≡ None
 
+-- a timer is free, and no smaller one is
 pub record IsSmallestFree (owners : Owners) (timer : ℕ) : Type 0 where
   pub is_free : IsFree owners timer
   pub smallest : (other : ℕ) → IsFree owners other → timer ≤ other
 
+-- no timer is free
 abbrev pub IsAllHeld : Owners → Type 0
 IsAllHeld owners = (timer : ℕ) → IsFree owners timer → ⊥
 
