@@ -6,6 +6,7 @@ use Rattle.toolkit_commands.specs.declared.faults.ProactiveFault.{ProactiveFault
 abbrev pub counted : List (List ℕ) → Result ℕ ProactiveFault
 counted found = Ok (min (length found) 255)
 
+-- the value of the first item
 abbrev pub IsFirst : List (List ℕ) → List ℕ → Type 0
 IsFirst [] first = ⊥
 IsFirst (value ∷ others) first = value ≡ first

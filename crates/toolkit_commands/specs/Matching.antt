@@ -27,6 +27,7 @@ pub record IsCommand (bytes : List ℕ) (command : Proactive) (number : ℕ) : T
   pub spelled : IsObjects content list
   pub has : HasObjects list (objects_of_command command number)
 
+-- a title and texts of at most 10 bytes, and at most 16 items
 pub record AreBounded (title : List ℕ) (items : List Item) : Type 0 where
   pub title_length : length title ≤ 10
   pub text_lengths : All (λ item. length item.text ≤ 10) items

@@ -7,5 +7,6 @@ use Rattle.std.specs.Prelude.{ℕ, ◌+◌, List, ◌∷◌, ◌++◌, take, dro
 abbrev pub place_of_number : List ℕ → ℕ
 place_of_number bytes = if slice_index_or bytes 1 0 == 129 then 5 else 4
 
+-- the bytes of a command with this number in place of its own
 abbrev pub renumbered : ℕ → List ℕ → List ℕ
 renumbered number bytes = take (place_of_number bytes) bytes ++ number ∷ drop (place_of_number bytes + 1) bytes

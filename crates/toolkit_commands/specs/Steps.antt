@@ -48,9 +48,11 @@ template_in bytes = from_tlv (template_of bytes) >>= λ x. if x.0 == PROACTIVE_C
 unfoldable pub needed : ℕ → List ℕ → Result (List ℕ) ProactiveFault
 needed tag content = from_tlv (value_of tag content) >>= or_missing
 
+-- the values of all items
 abbrev pub items_in : List ℕ → List (List ℕ)
 items_in content = values ITEM (outline content).objects
 
+-- the text of a text string, which has to be there
 unfoldable pub text_in : List ℕ → Result (List ℕ) ProactiveFault
 text_in content = needed TEXT_STRING content >>= text_of
 
@@ -58,21 +60,25 @@ text_in content = needed TEXT_STRING content >>= text_of
 abbrev pub text_command : (List ℕ → Proactive) → List ℕ → Result Proactive ProactiveFault
 text_command make content = text_in content >>= λ text. Ok (make text)
 
+-- POLL INTERVAL, from its duration
 unfoldable pub poll_interval_in : List ℕ → Result Proactive ProactiveFault
 poll_interval_in content = do
   duration ← needed DURATION content
   seconds ← seconds_of duration
   Ok (PollInterval seconds)
 
+-- SET UP EVENT LIST, from its event list
 unfoldable pub event_list_in : List ℕ → Result Proactive ProactiveFault
 event_list_in content = needed EVENT_LIST content >>= λ events. Ok (SetUpEventList events)
 
+-- PLAY TONE, from its tone
 unfoldable pub tone_in : List ℕ → Result Proactive ProactiveFault
 tone_in content = do
   value ← needed TONE content
   tone ← one_byte value
   Ok (PlayTone tone)
 
+-- GET INPUT, from its text string and its response length
 unfoldable pub input_in : ℕ → List ℕ → Result Proactive ProactiveFault
 input_in qualifier content = do
   string ← needed TEXT_STRING content
@@ -89,18 +95,21 @@ titled_in content = do
   title ← short_text_of alpha
   Ok (title, first)
 
+-- SELECT ITEM, from its title and its items
 unfoldable pub choice_in : List ℕ → Result Proactive ProactiveFault
 choice_in content = do
   titled ← titled_in content
   items ← choice_of (items_in content)
   Ok (SelectItem titled.0 items)
 
+-- SET UP MENU, from its title and its items
 unfoldable pub menu_in : List ℕ → Result Proactive ProactiveFault
 menu_in content = do
   titled ← titled_in content
   items ← menu_read (items_in content)
   Ok (SetUpMenu titled.0 items)
 
+-- TIMER MANAGEMENT that starts a timer, from its identifier and its value
 unfoldable pub started_timer_in : List ℕ → Result Proactive ProactiveFault
 started_timer_in content = do
   identifier ← needed TIMER_IDENTIFIER content
@@ -109,6 +118,7 @@ started_timer_in content = do
   value ← time_of span
   Ok (TimerManagement START timer value)
 
+-- any other TIMER MANAGEMENT, from its identifier; an unknown action is BadData
 unfoldable pub other_timer_in : ℕ → List ℕ → Result Proactive ProactiveFault
 other_timer_in action content = do
   identifier ← needed TIMER_IDENTIFIER content
@@ -148,6 +158,7 @@ command_of content = do
   command ← command_in numbers.1 numbers.2 content
   checked numbers devices command
 
+-- the command that some bytes are, or why they are none
 abbrev pub proactive_read : List ℕ → Result (Details × Proactive) ProactiveFault
 proactive_read bytes = template_in bytes >>= command_of
 
