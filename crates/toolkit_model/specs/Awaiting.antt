@@ -20,6 +20,7 @@ abbrev pub awaited : ℕ → List Sent → Awaits
 awaited shelf [] = Nothing
 awaited shelf (sent ∷ others) = if sent.shelf == shelf then Answer sent.command else awaited shelf others
 
+-- the stimulus is no response
 abbrev pub IsNoResponse : Stimulus → Type 0
 IsNoResponse (Response result item text) = ⊥
 IsNoResponse _ = Unit {0}
@@ -30,6 +31,7 @@ IsTold Nothing stimulus = IsNoResponse stimulus
 IsTold (Answer command) stimulus = ⊥
 IsTold (Telling reply) stimulus = stimulus ≡ Response reply.result reply.item reply.text
 
+-- an applet that sent a command waits for the answer to it
 abbrev pub asked_by : Act → Awaits
 asked_by (Send command) = Answer command
 asked_by _ = Nothing
@@ -48,6 +50,7 @@ abbrev pub OnReply : Bool → Outstanding → Reply → Awaits → (Awaits → T
 OnReply true out reply held next = (held ≡ Answer out.command) × next (Telling reply)
 OnReply false out reply held next = next held
 
+-- the command that is outstanding is of the applet on this shelf
 abbrev pub is_owner : ℕ → Option ℕ → Bool
 is_owner shelf None = false
 is_owner shelf (Some owner) = owner == shelf

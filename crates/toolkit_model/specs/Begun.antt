@@ -10,9 +10,11 @@ abbrev pub shelf_if : ℕ → Stimulus → Option ℕ
 shelf_if shelf (Event code body) = Some shelf
 shelf_if shelf _ = None
 
+-- the shelf of the applet that was told of the event in this turn
 abbrev pub begun_in : Happening → Option ℕ
 begun_in (Turned turn) = shelf_if turn.shelf turn.stimulus
 begun_in _ = None
 
+-- the shelves of the applets that were told of the event, in their order
 abbrev pub begun : List Happening → List ℕ
 begun log = filter_map begun_in log

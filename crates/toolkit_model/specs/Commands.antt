@@ -235,5 +235,6 @@ woken_box rows box = option_map (woken_mind (row_on rows box.0)) box.1
 unfoldable pub woken_boxes : List Registration → List (Option AppletState) → List (Option AppletState)
 woken_boxes rows boxes = map (woken_box rows) (enumerate_from 0 boxes)
 
+-- the toolkit once all applets woke, over a fresh session
 unfoldable pub toolkit_woken : List Registration → List (Option AppletState) → ToolkitState
 toolkit_woken rows minds = record { rows = rows; session = fresh_session; minds = woken_boxes rows minds }

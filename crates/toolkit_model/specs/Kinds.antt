@@ -14,6 +14,7 @@ use Rattle.toolkit_model.specs.Owing.{is_wake}
 abbrev pub AreOfKinds : List Registration → List (Option AppletState) → Type 0
 AreOfKinds rows minds = All (λ row. IfSome (mind_on minds row.shelf) (λ mind. mind.kind ≡ row.kind)) rows
 
+-- in this state of the toolkit the applet of each row is of the row's kind
 abbrev pub IsOfKinds : ToolkitState → Type 0
 IsOfKinds state = AreOfKinds state.rows state.minds
 

@@ -11,17 +11,21 @@ use Rattle.toolkit_model.specs.Passing.{ToolkitState, Passed, Happening, Woke, G
 abbrev pub counts : ℕ → LateTrigger → Bool
 counts shelf trigger = trigger.shelf == shelf && not (trigger.code == PROFILE_DOWNLOAD) && not (trigger.code == STATUS_COMMAND)
 
+-- those of these events that are the applet's
 abbrev pub owed : ℕ → List LateTrigger → List LateTrigger
 owed shelf triggers = filter (counts shelf) triggers
 
+-- the event that an envelope gave an applet, as it is noted
 abbrev pub given_in : Happening → Option LateTrigger
 given_in (Given trigger) = Some trigger
 given_in _ = None
 
+-- the event that an applet was told of, if it was told of one
 abbrev pub event_of : ℕ → Stimulus → Option LateTrigger
 event_of shelf (Event code body) = Some (record { shelf = shelf; code = code; body = body })
 event_of shelf _ = None
 
+-- the event that an applet was told of in this turn
 abbrev pub told_in : Happening → Option LateTrigger
 told_in (Turned turn) = event_of turn.shelf turn.stimulus
 told_in _ = None
@@ -30,9 +34,11 @@ told_in _ = None
 abbrev pub given_to : ℕ → List Happening → List LateTrigger
 given_to shelf log = owed shelf (filter_map given_in log)
 
+-- the events that the applet was told of
 abbrev pub told_to : ℕ → List Happening → List LateTrigger
 told_to shelf log = owed shelf (filter_map told_in log)
 
+-- all applets woke
 abbrev pub is_wake : Happening → Bool
 is_wake Woke = true
 is_wake _ = false

@@ -68,5 +68,6 @@ abbrev pub AreAccepted : List ToolkitInput → ToolkitState → Type 0
 AreAccepted [] state = Unit {0}
 AreAccepted (command ∷ others) state = IsAccepted command state × AreAccepted others (moved command state).state
 
+-- the toolkit after these commands, and what is noted of them
 abbrev pub moved_by : List ToolkitInput → ToolkitState → Passed
 moved_by commands state = in_turn moved commands state
