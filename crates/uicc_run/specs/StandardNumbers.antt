@@ -33,6 +33,7 @@ use Rattle.handset_model.specs.declared.TheConstants as handset
 use Rattle.bip_channels.specs.declared.codes.TheConstants as channel
 use Rattle.bip_channels.specs.declared.channels.TheConstants as channel_of
 
+-- each constant that code and definitions share has the value of its standard, or of the layout
 pub record StandardNumbers : Type 0 where
   -- status words (ISO 7816-4, 5.1.3; ETSI TS 102 221, 10.2.1)
   pub status_words : status.DONE.0 ∷ status.END_OF_FILE.0 ∷ status.FILE_DEACTIVATED.0 ∷ status.MEMORY_PROBLEM.0 ∷ status.WRONG_LENGTH.0 ∷ status.NO_SUCH_CHANNEL.0 ∷ status.NO_SECURE_MESSAGING.0 ∷ status.WRONG_STRUCTURE.0 ∷ status.SECURITY_NOT_SATISFIED.0 ∷ status.PIN_BLOCKED.0 ∷ status.PIN_DISABLED.0 ∷ status.CONDITIONS_NOT_SATISFIED.0 ∷ status.NO_CURRENT_FILE.0 ∷ status.WRONG_DATA.0 ∷ status.NO_FREE_CHANNEL.0 ∷ status.FILE_NOT_FOUND.0 ∷ status.RECORD_NOT_FOUND.0 ∷ status.NO_ROOM.0 ∷ status.WRONG_PARAMETERS.0 ∷ status.REFERENCE_NOT_FOUND.0 ∷ status.FILE_ALREADY_THERE.0 ∷ status.WRONG_OFFSET.0 ∷ status.NO_SUCH_INSTRUCTION.0 ∷ status.NO_SUCH_CLASS.0 ∷ status.TOOLKIT_BUSY.0 ∷ status.OVERFLOW.0 ∷ []
