@@ -1,3 +1,5 @@
+-- A read changes nothing, so the gate (byte 64) and the entries (128 to 831) are those of one content: the pieces are those of the commit that is
+-- to be ended.
 use Rattle.std.proofs.Common.{◌≡◌, ◌+◌, List, ℕ, Option, sym, ap, subst, ◌∙◌, IfSome, slice_range, option_map, arith, rules}
 use Rattle.std.proofs.lemmas.Result.{on_ok_weaker}
 use Rattle.list_laws.proofs.IfSomeLemmas.{if_some, on_err}
