@@ -1,3 +1,4 @@
+-- The 32 rows are read and checked, and then the 128 entries of files.
 use Rattle.std.proofs.Common.{map}
 use Rattle.std.specs.List.{range_with_len}
 use Rattle.card_state.specs.Decoding.{row_at, node_at}

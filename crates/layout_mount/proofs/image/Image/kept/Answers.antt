@@ -1,3 +1,4 @@
+-- The bytes that stand apart from the rows are 32 a row and begin at 64,512, which is byte 1,024 of what a wide card has after its files.
 use Rattle.std.proofs.Common.{◌+◌, ◌*◌, ◌-◌, arith}
 use Rattle.layout_mount.proofs.ImagesLemmas.{upper_slice}
 use Rattle.layout_mount.proofs.image.Image.kept.Goals as goal

@@ -1,3 +1,4 @@
+-- The entries of files have 16 bytes each and begin at 1,920, which is byte 1,088 of the table.
 use Rattle.std.proofs.Common.{◌+◌, ◌*◌, ◌-◌, arith}
 use Rattle.layout_mount.proofs.ImagesLemmas.{table_slice}
 use Rattle.layout_mount.proofs.image.Image.node.Goals as goal

@@ -1,3 +1,4 @@
+-- The PIN slots have 20 bytes each and begin at 832, with the table.
 use Rattle.std.proofs.Common.{◌+◌, ◌*◌, ◌-◌, arith}
 use Rattle.layout_mount.proofs.ImagesLemmas.{table_slice}
 use Rattle.layout_mount.proofs.image.Image.pin.Goals as goal

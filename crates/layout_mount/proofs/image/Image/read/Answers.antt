@@ -1,3 +1,5 @@
+-- A read changes nothing, so the three ranges are of one content: the first bytes, the table (832 to 3,967), and what a wide card has after its
+-- files (from 63,488 on).
 use Rattle.std.proofs.Common.{◌≡◌, ℕ, List, ◌∙◌, arith, slice_range}
 use Rattle.layout_mount.proofs.ImagesLemmas.{same_entries, same_told, length-whole}
 use Rattle.layout_mount.proofs.image.Image.read.Goals as goal
