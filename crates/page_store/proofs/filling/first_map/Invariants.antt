@@ -1,3 +1,4 @@
+-- The entries so far name the pages from 45 on, in order; a map has 2,022 bytes.
 use Rattle.std.proofs.Common.{◌≡◌, ◌+◌, ◌*◌, ◌<◌, ℕ, length}
 use Rattle.page_store.specs.Pages.{number_at}
 use Rattle.page_store.proofs.filling.first_map.Given as goal

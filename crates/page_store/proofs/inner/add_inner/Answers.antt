@@ -1,3 +1,4 @@
+-- For a piece of mapped pages their entries in the map are written: two bytes a page from 832 on, of which page 13 has the first.
 use Rattle.std.proofs.Common.{◌++◌, ◌∷◌, ◌+◌, ◌-◌, ◌*◌, ◌/◌, [], length, ap, ◌∙◌, arith}
 use Rattle.store_form.specs.Pieces.{Piece}
 use Rattle.page_store.proofs.InnerPieceLemmas.{bytes_from, high_piece}

@@ -1,3 +1,4 @@
+-- The map stands in bytes 832 to 2,853; what is read there is what is known of it.
 use Rattle.std.proofs.Common.{◌≡◌, List, ℕ, Option, rules, sym, subst, IfSome, slice_range}
 use Rattle.page_store.specs.Paged.{IsKnown}
 use Rattle.page_store.proofs.KnownOfLemmas.{known_read}

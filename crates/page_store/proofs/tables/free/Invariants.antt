@@ -1,3 +1,4 @@
+-- The free pages so far are those of the pool, 1,075 pages from 45 on, up to this one, that the map doesn't name.
 use Rattle.std.proofs.Common.{◌≡◌, ◌-◌, not, take}
 use Rattle.std.specs.List.{filter, range_with_len}
 use Rattle.page_store.specs.Pages.{is_among}
