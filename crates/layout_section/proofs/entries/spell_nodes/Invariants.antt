@@ -1,3 +1,4 @@
+-- The entries that were passed are spelled, 16 bytes each; 128 have 2,048.
 use Rattle.std.proofs.Common.{◌≡◌, ℕ, ◌*◌, ◌<◌, length, slice_index_or}
 use Rattle.card_state.specs.Blank.{unused_node}
 use Rattle.card_state.specs.Decoding.{bytes_at}

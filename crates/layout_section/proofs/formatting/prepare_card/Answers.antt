@@ -1,3 +1,5 @@
+-- The parts of a card are prepared one after the other: the bytes of the files at 3,968, and of a wide card the upper rows at 63,488 and the bytes
+-- that stand apart from the rows at 64,512.
 use Rattle.std.proofs.Common.{ℕ, List, Option, ap, ◌∙◌, arith, option_map}
 use Rattle.std.proofs.lemmas.Result.{on_ok_weaker}
 use Rattle.list_laws.specs.Patches.{patched}

@@ -1,3 +1,4 @@
+-- What the rows that were passed keep apart is spelled, 32 bytes a row; 32 rows have 1,024.
 use Rattle.std.proofs.Common.{◌≡◌, ℕ, ◌*◌, ◌<◌, length, slice_index_or}
 use Rattle.card_state.specs.Blank.{unused_row}
 use Rattle.card_state.specs.Decoding.{bytes_at}

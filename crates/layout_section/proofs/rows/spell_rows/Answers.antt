@@ -1,3 +1,4 @@
+-- One row more is spelled in 51 of its 64 bytes, and those before it stay as they were.
 use Rattle.std.proofs.Common.{◌≡◌, ℕ, ◌+◌, ◌*◌, ◌≤◌, List, length, ap, ◌∙◌, arith, slice_index_or}
 use Rattle.std.proofs.lemmas.List.{get_or_read}
 use Rattle.list_laws.proofs.PatchesLemmas.{length-patched}

@@ -1,3 +1,4 @@
+-- The rows that were passed are spelled, each in 51 of its 64 bytes; 16 rows have 1,024.
 use Rattle.std.proofs.Common.{◌≡◌, ℕ, ◌*◌, ◌<◌, length, slice_index_or}
 use Rattle.card_state.specs.Blank.{unused_row}
 use Rattle.card_state.specs.Decoding.{bytes_at}
