@@ -1,3 +1,4 @@
+-- The tags 80 (128), of an access mode byte, and 84 (132), of an instruction byte.
 use Rattle.std.proofs.Common.{get_or, refl, arith}
 use Rattle.access_rules.specs.Rules.{by_bits, by_instruction}
 use Rattle.access_rules.proofs.PairLemmas.{one_byte}
