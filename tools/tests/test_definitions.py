@@ -128,7 +128,7 @@ macro_rules! made {
     # a definition, and some of those that cite it: by its own module, by another name, and handed on by a module
     CITED = [
         (("card_model", "Runs", "IsRun"), ("crates/run_steps/specs/Views.antt", "IsRunOf", "")),
-        (("script_reader", "Behind", "LinesReadTo"), ("crates/script_reader/specs/Behind.antt", "GivesRead", "")),
+        (("script_reader", "Behind", "StopsReading"), ("crates/phone_runs/specs/Lines.antt", "PhoneEnds", "")),
         (("uicc_run", "Endings", "status_for"), ("crates/uicc_run/src/running.rt", "close", "status")),
         (("card_state", "Persistent", "Pin"), ("crates/card_model/specs/Answers.antt", "with_pins", "")),
         (("uicc_run", "Playing", "Reaches"), ("crates/uicc_run/specs/Playing.antt", "BreaksSo", "")),
@@ -142,7 +142,7 @@ macro_rules! made {
     # definitions that a clause of a run or of the program reaches, and some that only other clauses and proofs cite
     REACHED = [("uicc_run", "Running", "RunsAsAsked"), ("card_model", "Answers", "answer"), ("handset_model", "Legal", "IsLegal"),
                ("boxed_applets", "Casts", "program_boxes")]
-    OTHERS = [("uicc_run", "Making", "IsMade"), ("script_reader", "Behind", "LinesReadTo"), ("card_core", "Parts", "CardParts")]
+    OTHERS = [("uicc_run", "Making", "IsMade"), ("script_reader", "Behind", "GivesLine"), ("card_core", "Parts", "CardParts")]
 
     def test_text_of(self):
         named = {one.name: one for one in sources.declared_by_spec("a", "crates/a/specs/B.antt", self.SPEC)}
