@@ -26,6 +26,7 @@ pub record EndsWell (result : Result Unit StoreFault) (old new : Memory) (answer
 
 -- ---- what was tried: a selection, or the status that refuses the command
 
+-- the files that are selected then, or the status of a refusal, or the fault that stopped it
 abbrev pub Tried : Type 0
 Tried = Result (Result Selection StatusWord) StoreFault
 
