@@ -38,14 +38,17 @@ HasLinearRecord table number index width = HasFile table number (λ file. (file.
 abbrev pub HasRing : Loaded → ℕ → ℕ → Type 0
 HasRing table number width = HasFile table number (λ file. (file.kind ≡ cyclic_kind) × (file.width ≡ width))
 
+-- an EF has this number
 abbrev pub HasEf : Loaded → ℕ → Type 0
 HasEf table number = HasFile table number (λ file. IsTrue (is_ef_kind file.kind))
 
 -- ---- entries
 
+-- the slot with this number
 abbrev pub pin_at : Loaded → ℕ → PinSlot
 pin_at table slot = slice_index_or table.pins slot absent_pin
 
+-- the row of this shelf
 abbrev pub row_at : Loaded → ℕ → Row
 row_at table shelf = slice_index_or table.rows shelf unused_row
 
@@ -59,6 +62,7 @@ HasRowOn table shelf = IsSomeAnd (slice_get table.rows shelf) (λ row. row.used 
 
 -- ---- a table in which one entry is another
 
+-- the table with another entry under this number
 abbrev pub with_node_at : Loaded → ℕ → Node → Loaded
 with_node_at table number node = record table { nodes = slice_set table.nodes number node }
 
@@ -70,8 +74,10 @@ with_head_moved node = record node { head = oldest node.head (record_count node)
 abbrev pub with_life_told : ℕ → ℕ → List Descriptor → List Descriptor
 with_life_told number life files = map (λ (file : Descriptor). if file.number == number then record file { life = life } else file) files
 
+-- the table with another slot
 abbrev pub with_pin_at : Loaded → ℕ → PinSlot → Loaded
 with_pin_at table slot pin = record table { pins = slice_set table.pins slot pin }
 
+-- the table with another row on this shelf
 abbrev pub with_row_at : Loaded → ℕ → Row → Loaded
 with_row_at table shelf row = record table { rows = slice_set table.rows shelf row }

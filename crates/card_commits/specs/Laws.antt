@@ -18,6 +18,7 @@ pub record IsTold (table : Loaded) (state : Persistent) : Type 0 where
   pub next : state.next_sequence ≡ table.next
   pub wide : state.is_wide ≡ table.wide
 
+-- a table that agrees with its store tells the state that the store stands for
 abbrev pub TablesTellStates : Type 0
 TablesTellStates = (mark : ℕ) (told : Option (List ℕ)) (table : Loaded) (state : Persistent) → Agrees mark told table → standing mark told ≡ Some state → IsTold table state
 

@@ -47,6 +47,7 @@ StaysStill old new passed = IfSome (held old) (λ state. passed state ≡ [] →
 abbrev pub with_each : Persistent → List (List Pin) → List Persistent
 with_each state passed = map (λ pins. record state { pins = pins }) passed
 
+-- a PIN command came to this: its status without data, the marks, and the PINs of the state after its last commit
 pub record IsPinOutcome (state : Persistent) (outcome : PinOutcome) (answer : Answer) (verified : Verified) (old new : Memory) : Type 0 where
   pub body : answer.body ≡ []
   pub status : answer.status ≡ outcome.status
@@ -59,6 +60,7 @@ pub record IsPinStopped (old new : Memory) (outcome : Persistent → PinOutcome)
   pub passes : PassesOne (held old) (held new) (λ state. with_each state (outcome state).passed)
   pub commits : IfSome (held old) (λ state. CommitsAtMost (length (outcome state).passed) old.commits new.commits)
 
+-- what a PIN command has done after Ok, or where a fault stopped it
 abbrev pub PerformsPin : {E : Type 0} → Result Unit E → Memory → Memory → Answer → Verified → (Persistent → PinOutcome) → Type 0
 PerformsPin (Ok done) old new answer verified outcome = IfSome (held old) (λ state. IsPinOutcome state (outcome state) answer verified old new)
 PerformsPin (Err fault) old new answer verified outcome = IsPinStopped old new outcome

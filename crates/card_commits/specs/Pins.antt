@@ -16,7 +16,7 @@ changed_pin (Value value) pin = record pin { tries = TRIES; value = value }
 changed_pin (Enabled enabled) pin = record pin { enabled = enabled; tries = TRIES }
 changed_pin (Unblocked value) pin = record pin { enabled = true; tries = TRIES; unblock_tries = UNBLOCK_TRIES; value = value }
 
--- the first of the bytes of the entry that are set, and the one behind the last
+-- the first of the bytes of the entry that are set, and the one after the last
 abbrev pub span_of : PinChange → ℕ × ℕ
 span_of (Tries tries) = (2, 3)
 span_of (UnblockTries tries) = (3, 4)

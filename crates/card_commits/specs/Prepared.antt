@@ -18,7 +18,7 @@ filled place count content = patched place (replicate count 0xFF) content
 abbrev pub copied : ℕ → ℕ → ℕ → List ℕ → List ℕ
 copied from place count content = patched place (bytes_at content from count) content
 
--- the bytes of a file at another place too, and behind them FF up to another size
+-- the bytes of a file at another place too, and after them FF up to another size
 abbrev pub moved : Node → ℕ → ℕ → List ℕ → List ℕ
 moved node place size content = patched place (file_bytes content node ++ replicate (size - node.size) 0xFF) content
 

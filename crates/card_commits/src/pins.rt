@@ -31,7 +31,7 @@ pub enum PinChange {
 }
 
 impl PinChange {
-    // The first of the bytes of an entry that are set, and the one behind the last.
+    // The first of the bytes of an entry that are set, and the one after the last.
     fn span(self) -> (u8, u8)
         ensures { result ≡ span_of self }
     {

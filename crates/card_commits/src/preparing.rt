@@ -58,7 +58,7 @@ fn prepare_copy<S: Store>(
     )
 }
 
-/// Prepares free bytes for a file that gets more of them: its own, and FF behind them.
+/// Prepares free bytes for a file that gets more of them: its own, and FF after them.
 pub fn prepare_moved<S: Store>(
     store: &mut S,
     loaded: &Loaded,
