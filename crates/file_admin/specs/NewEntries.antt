@@ -8,9 +8,11 @@ use Rattle.file_model.specs.declared.descriptors.RuleReference.{RuleReference}
 use Rattle.file_model.specs.declared.asked.NewFile.{NewFile}
 use Rattle.file_model.specs.declared.asked.NewFile.TheVariants.{Df, Ef}
 
+-- a rule as a pair: its EF_ARR, and the record there
 abbrev pub pair_of : RuleReference → FileId × ℕ
 pair_of rule = (rule.arr, rule.number)
 
+-- the entry of a file that is made in this DF, whose bytes begin at this place
 abbrev pub node_made : ℕ → ℕ → NewFile → Node
 node_made df place (Df id) = df_node df id
 node_made df place (Ef id shape short rule) = ef_node place df id shape short (option_map pair_of rule)

@@ -44,12 +44,15 @@ WithFilesOf table Holds = (state : Persistent) → descriptors_in state ≡ desc
 
 -- ---- what the commands come to on a state, by the data, by the keys that are verified and by what is selected
 
+-- what a CREATE FILE comes to, by the state of the card
 abbrev pub creation_by : Apdu → Verified → List (Option Selection) → Persistent → Result TreeOutcome StatusWord
 creation_by apdu seen channels = λ state. created state seen channels (channel_of apdu.class) apdu
 
+-- what a DELETE FILE comes to, by the state of the card
 abbrev pub deletion_by : Apdu → Verified → List (Option Selection) → Persistent → Result TreeOutcome StatusWord
 deletion_by apdu seen channels = λ state. deleted state seen channels (channel_of apdu.class) apdu
 
+-- what a RESIZE FILE comes to, by the state of the card
 abbrev pub resizing_by : Apdu → Verified → List (Option Selection) → Persistent → Result TreeOutcome StatusWord
 resizing_by apdu seen channels = λ state. resized state seen channels (channel_of apdu.class) apdu
 
@@ -78,6 +81,7 @@ pub record IsTreeAnswer (store_mark : ℕ) (state : Persistent) (meaning : Resul
   pub content : List ℕ
   pub stands : Stands store_mark content table (last_of state (passed_by old meaning))
 
+-- what a command comes to is told for each state that the table may stand for
 abbrev pub AnswersTree : Loaded → Loaded → StatusWord → List (Option Selection) → List (Option Selection) → (Persistent → Result TreeOutcome StatusWord) → Type 0
 AnswersTree before after status old new meaning =
     (store_mark : ℕ) (content : List ℕ) (state : Persistent) → Stands store_mark content before state → IsTreeAnswer store_mark state (meaning state) old status new after

@@ -48,7 +48,7 @@ MadeFilesStand =
     → (let node = node_made df place asked in
     Stands store_mark (after (node_part number node 0 16) (patched place (blank_bytes asked) content)) (with_node table number node) (with_file_at state number (Some (file_made number df place asked))))
 
--- with the bytes that a file held and FF behind them where there is room for them all, and its place and size, it stands for the
+-- with the bytes that a file held and FF after them where there is room for them all, and its place and size, it stands for the
 -- card with the larger file
 abbrev pub GrownFilesStand : Type 0
 GrownFilesStand =

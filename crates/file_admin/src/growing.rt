@@ -12,7 +12,7 @@ use card_state::{Loaded, Node};
 use layout_laws::cards_are_known;
 use store_form::{Store, StoreFault};
 
-/// Moves a transparent file to this place, where it has more bytes: those that it holds, and FF behind them. After a fault the
+/// Moves a transparent file to this place, where it has more bytes: those that it holds, and FF after them. After a fault the
 /// table is as it was.
 pub fn grow<S: Store>(
     store: &mut S,

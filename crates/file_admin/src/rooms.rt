@@ -20,7 +20,7 @@ fn is_in_the_way(node: &Node, place: u32, size: u32) -> bool
     node.used && kinds::is_ef(node.kind) && place.max(begins) < (place + size).min(ends)
 }
 
-// The place to go on from, behind each EF that is in the way: the entries are met in their order, and each is asked whether it is in the way
+// The place to go on from, after each EF that is in the way: the entries are met in their order, and each is asked whether it is in the way
 // from where the one before left.
 fn behind_files(nodes: &[Node], place: u32, size: u32) -> u32
     requires place { place < 2 ^ 17 }
