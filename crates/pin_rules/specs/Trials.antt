@@ -35,6 +35,7 @@ GivesTries (Value value) = Unit {0}
 GivesTries (Enabled enabled) = Unit {0}
 GivesTries (Unblocked value) = ⊥
 
+-- the marks, with that of the key where the command verifies it
 abbrev pub marked_if : Bool → Verified → ℕ → Verified
 marked_if verifies verified key = if verifies then marked verified key true else verified
 
@@ -47,6 +48,7 @@ abbrev pub unblock_trial : List Pin → Verified → Held → List ℕ → List 
 unblock_trial pins verified held value new =
     unblock_presented pins verified (pin_state held.pin) value (pin_state (changed_pin (Unblocked (record { 0 = new })) held.pin)) (marked verified held.pin.key true)
 
+-- what a command comes to once nothing refuses it
 abbrev pub outcome_of : List Pin → Verified → Apdu → Trial → PinOutcome
 outcome_of pins verified apdu (Tell tries) = told verified tries
 outcome_of pins verified apdu (Present held change verifies) = pin_trial pins verified held (value_presented apdu) change (marked_if verifies verified held.pin.key)

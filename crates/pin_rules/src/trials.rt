@@ -41,7 +41,7 @@ fn is_pin_key(key: u8) -> bool
     is_users_key(key) || key == ADM_1
 }
 
-// The new value behind the one that is presented.
+// The new value after the one that is presented.
 fn new_value(command: &Command<'_>) -> Pin8
     requires { length command.now.body ≡ 16 }
     ensures { result.0 ≡ drop 8 command.now.body }
