@@ -16,6 +16,7 @@ abbrev pub number_left : Bool → ℕ → ℕ → ℕ
 number_left true count left = count + 1 - left
 number_left false count left = left
 
+-- the numbers of the records that are still to be searched, forward or backward
 abbrev pub numbers_left : Bool → ℕ → ℕ → List ℕ
 numbers_left true count left = range_with_len (count + 1 - left) left
 numbers_left false count left = reverse (range_with_len 1 left)

@@ -26,7 +26,7 @@ use file_model::{Descriptor, Selection};
 use store_form::{Store, StoreFault};
 use uicc_types::{Answer, AnswerData, StatusWord};
 
-// P1 is 0, or has b8 set and a short file identifier behind it.
+// P1 is 0, or has b8 set and a short file identifier after it.
 fn has_parameters(command: &Command<'_>) -> bool
     ensures { result ≡ has_increase_parameters command.now }
 {

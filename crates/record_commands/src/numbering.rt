@@ -9,7 +9,7 @@ use apdu_form::Command;
 use file_model::{Descriptor, Selection};
 use uicc_types::StatusWord;
 
-// Behind the last record of a cyclic file comes the first.
+// After the last record of a cyclic file comes the first.
 fn next_record(file: &Descriptor, pointer: Option<u8>) -> Option<u8>
     requires some { 1 ≤ file.now.count }
     ensures value { result ≡ next_record file.now pointer }

@@ -37,7 +37,7 @@ const LONGEST_RECORD: usize = 255;
 // `memchr` looks at so many bytes at once, and at fewer one by one.
 const SEARCHED_AT_ONCE: usize = 32;
 
-// Whether a byte and the others stand one behind the other in the first `width` bytes of what is held. The byte is looked for in
+// Whether a byte and the others stand one after the other in the first `width` bytes of what is held. The byte is looked for in
 // all that is held: where that is as much as is looked at at once, it is quicker than to look at less.
 fn stand_within(first: u8, others: &[u8], held: &[u8], width: usize) -> bool
     requires { width ≤ length held.now }
@@ -59,7 +59,7 @@ fn stand_within(first: u8, others: &[u8], held: &[u8], width: usize) -> bool
     false
 }
 
-// Whether bytes stand one behind the other in the first `width` bytes of what is held.
+// Whether bytes stand one after the other in the first `width` bytes of what is held.
 fn has_within(wanted: &[u8], held: &[u8], width: usize) -> bool
     requires { width ≤ length held.now }
     ensures { result ≡ has_within wanted.now (take width held.now) }
@@ -155,7 +155,7 @@ fn push(found: &mut AnswerData, number: u8)
     }
 }
 
-// Puts the number of the record behind the others, if it matches. The record is read into `buffer`.
+// Puts the number of the record after the others, if it matches. The record is read into `buffer`.
 #[tactic(auto, unfolding(crate::specs::Searching::is_match))]
 fn match_one<S: Store>(
     store: &mut S,
