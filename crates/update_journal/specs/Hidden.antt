@@ -8,6 +8,7 @@ use Rattle.update_journal.specs.Journal.{hidden}
 own_count : (image : List ℕ) → length (slice_range image 64 832) + (length image - 832) ≡ length image - 64
 own_count image = omega (arith, length-take 768 (drop 64 image), length-drop 64 image)
 
+-- the image keeps its length
 pub length-hidden : (image : List ℕ) → length (hidden image) ≡ length image
 unfolding hidden
 length-hidden image =
@@ -18,9 +19,11 @@ length-hidden image =
 abbrev pub filling : List ℕ → List ℕ
 filling image = replicate (length (slice_range image 64 832)) 255
 
+-- the bytes that are filled in are those of the journal, as far as the image has them
 pub length-filling : (image : List ℕ) → length (filling image) + (length image - 832) ≡ length image - 64
 length-filling image = let count : length (filling image) ≡ length (slice_range image 64 832) = length-replicate {A = ℕ} (length (slice_range image 64 832)) 255 in omega (arith, own_count image)
 
+-- bytes 64 to 831 are FF
 pub hidden_own : (image : List ℕ) (k : ℕ) → 64 ≤ k → k < 832 → k < length image → get_or (hidden image) k 0 ≡ 255
 unfolding hidden
 hidden_own image k low high there =

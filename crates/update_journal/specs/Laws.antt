@@ -18,14 +18,17 @@ usable_if : (size : ℕ) (area : List ℕ) (b : Bool) → AreUsable (if b then u
 usable_if size area true = usable_or_none size area (pieces_in size area) refl
 usable_if size area false = All-nil (IsUsablePiece size)
 
+-- the pieces of the commit that is to be ended lie in the image, and outside the journal's own bytes
 pub usable-pending : (image : List ℕ) → AreUsable (pending image) (length image)
 unfolding pending
 usable-pending image = usable_if (length image) (slice_range image 128 832) (is_open image)
 
+-- the stable bytes are as many as the image has
 pub length-stable_of : (image : List ℕ) → length (stable_of image) ≡ length image
 unfolding stable_of
 length-stable_of image = length-hidden (applied (pending image) image) ∙ length-applied (pending image) image (usable-pending image)
 
+-- bytes 64 to 831 of the stable bytes are FF
 pub stable_own : (image : List ℕ) (k : ℕ) → 64 ≤ k → k < 832 → k < length image → slice_index (stable_of image) k ≡ 255
 unfolding stable_of
 stable_own image k low high there = hidden_own (applied (pending image) image) k low high (omega (arith, length-applied (pending image) image (usable-pending image)))
@@ -35,6 +38,7 @@ pub told_stable : (told : Option (List ℕ)) (size : ℕ) → IfSome told (λ he
 told_stable None size long = long
 told_stable (Some image) size long = length-stable_of image ∙ long
 
+-- so it is where a device tells its bytes
 pub told_own : (told : Option (List ℕ)) (size k : ℕ) → IfSome told (λ held. length held ≡ size) → 64 ≤ k → k < 832 → k < size → IfSome (option_map stable_of told) (λ held. slice_index held k ≡ 255)
 told_own None size k long low high there = long
 told_own (Some image) size k long low high there = stable_own image k low high (omega arith)

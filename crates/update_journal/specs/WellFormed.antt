@@ -13,12 +13,14 @@ use Rattle.update_journal.specs.Entries.{is_usable, are_well_formed, if_well_for
 abbrev pub test : ℕ → Piece → Bool
 test size piece = is_usable size piece.place (length piece.bytes)
 
+-- a piece that is tested is one that a commit may have
 pub usable_from_test : (size : ℕ) (piece : Piece) → test size piece ≡ true → IsUsablePiece size piece
 usable_from_test size piece passed = record {
   some = grind (arith, nat_tests);
   range = record { inside = grind (arith, nat_tests); outside = λ some low. grind (arith, nat_tests) };
 }
 
+-- and so are all of them
 pub usable_from_tests : (size : ℕ) (pieces : List Piece) → are_well_formed size pieces ≡ true → All (IsUsablePiece size) pieces
 usable_from_tests size pieces passed =
     All-weaker (λ piece. test size piece ≡ true) (IsUsablePiece size) (usable_from_test size) pieces (AllPass-from_list_all (test size) pieces ((and_parts _ _ passed).0))
