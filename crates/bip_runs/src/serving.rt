@@ -3,6 +3,7 @@ ghost use Rattle.std.specs.Prelude.{◌≡◌, ◌≢◌, ◌<◌, ◌+◌, List
 ghost use Rattle.uicc_types.specs.Counts.{CountsFailure};
 ghost use Rattle.byte_streams.specs.Lines.{LineList};
 ghost use Rattle.byte_streams.specs.Reading.{IsTaken, IsWithin};
+ghost use Rattle.byte_streams.specs.Streams.{CountsEach};
 ghost use Rattle.byte_streams.specs.declared.limits.TheConstants.{MOST_BYTES};
 ghost use Rattle.script_reader.specs.Reading.{Follows, reading, room_of};
 ghost use Rattle.bip_channels.specs.Channels.{none_open};
@@ -32,7 +33,7 @@ pub fn serve<R: Source, W: Sink>(
     // No more than 16,777,217 bytes of the script are taken.
     ensures taken { (text : List ℕ) → R.left source.old ≡ Some text
         → IsTaken (MOST_BYTES + 1) text (R.left source.new) }
-    ensures source_cause { CountsFailure (R.faults source.old) (R.faults source.new) (result ≡ Ok PlayEnd.ReadFailed) }
+    ensures source_cause { CountsEach (R.faults source.old) (R.faults source.new) (result ≡ Ok PlayEnd.ReadFailed) }
     ensures sink_cause { CountsFailure (W.faults trace.old) (W.faults trace.new) (result ≡ Ok PlayEnd.SinkFailed) }
     ensures tells { is_some (W.taken trace.new) ≡ is_some (W.taken trace.old) }
     ensures no_reset { result ≢ Ok PlayEnd.ResetFailed }
@@ -53,7 +54,7 @@ fn serve_script<R: Source, W: Sink>(bip: &mut Bip, source: &mut R, trace: &mut W
         → BipComesTo text (W.taken trace.old) (R.left source.new) (W.taken trace.new) result }
     ensures taken { (text : List ℕ) → R.left source.old ≡ Some text
         → IsTaken (MOST_BYTES + 1) text (R.left source.new) }
-    ensures source_cause { CountsFailure (R.faults source.old) (R.faults source.new) (result ≡ PlayEnd.ReadFailed) }
+    ensures source_cause { CountsEach (R.faults source.old) (R.faults source.new) (result ≡ PlayEnd.ReadFailed) }
     ensures sink_cause { CountsFailure (W.faults trace.old) (W.faults trace.new) (result ≡ PlayEnd.SinkFailed) }
     ensures tells { is_some (W.taken trace.new) ≡ is_some (W.taken trace.old) }
     ensures no_reset { result ≢ PlayEnd.ResetFailed }
@@ -74,7 +75,7 @@ fn serve_lines<R: Source, W: Sink>(
         → BipComesTo text before (R.left source.new) (W.taken trace.new) result }
     ensures within { (text : List ℕ) → IsWithin text (reading script.old) (R.left source.old)
         → IsWithin text (reading script.new) (R.left source.new) }
-    ensures source_cause { CountsFailure (R.faults source.old) (R.faults source.new) (result ≡ PlayEnd.ReadFailed) }
+    ensures source_cause { CountsEach (R.faults source.old) (R.faults source.new) (result ≡ PlayEnd.ReadFailed) }
     ensures sink_cause { CountsFailure (W.faults trace.old) (W.faults trace.new) (result ≡ PlayEnd.SinkFailed) }
     ensures tells { is_some (W.taken trace.new) ≡ is_some (W.taken trace.old) }
     ensures no_reset { result ≢ PlayEnd.ResetFailed }
@@ -102,7 +103,7 @@ fn serve_line<R: Source, W: Sink>(
         → GivesServed text before place.new script.new (R.left source.new) (W.taken trace.new) bip.new result }
     ensures within { (text : List ℕ) → IsWithin text (reading script.old) (R.left source.old)
         → IsWithin text (reading script.new) (R.left source.new) }
-    ensures source_cause { CountsFailure (R.faults source.old) (R.faults source.new) (result ≡ Err PlayEnd.ReadFailed) }
+    ensures source_cause { CountsEach (R.faults source.old) (R.faults source.new) (result ≡ Err PlayEnd.ReadFailed) }
     ensures sink_cause { CountsFailure (W.faults trace.old) (W.faults trace.new) (result ≡ Err PlayEnd.SinkFailed) }
     ensures tells { is_some (W.taken trace.new) ≡ is_some (W.taken trace.old) }
     ensures no_reset { result ≢ Err PlayEnd.ResetFailed }
@@ -145,7 +146,7 @@ fn next_line<R: Source>(
         → GivesLine place text found script.new (R.left source.new) line.new result }
     ensures within { (text : List ℕ) → IsWithin text (reading script.old) (R.left source.old)
         → IsWithin text (reading script.new) (R.left source.new) }
-    ensures cause { CountsFailure (R.faults source.old) (R.faults source.new) (result ≡ Err PlayEnd.ReadFailed) }
+    ensures cause { CountsEach (R.faults source.old) (R.faults source.new) (result ≡ Err PlayEnd.ReadFailed) }
     ensures no_sink { result ≢ Err PlayEnd.SinkFailed }
     ensures no_reset { result ≢ Err PlayEnd.ResetFailed }
     ensures nearer { OnOk result (room_of script.new < room_of script.old) }

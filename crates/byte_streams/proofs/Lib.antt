@@ -3,5 +3,6 @@ mod IsWithinLemmas
 mod LineLemmas
 mod NextLineLemmas
 pub mod ReadingLemmas
+pub mod StreamsLemmas
 mod WindowLemmas
 mod worked

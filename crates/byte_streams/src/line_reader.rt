@@ -39,11 +39,11 @@ impl Model for LineReader {
 
 impl LineReader {
     ghost use Rattle.std.specs.Prelude.{◌≡◌, ◌≢◌, ◌≤◌, ◌<◌, ◌+◌, ◌-◌, ◌&&◌, List, ℕ, true, false, IsErr, IfOk, OnErr, length, take, drop, min, nat_le, if◌then◌else◌};
-    ghost use Rattle.uicc_types.specs.Counts.{CountsFailure};
     ghost use Rattle.byte_streams.specs.Lines.{LineList};
     ghost use Rattle.byte_streams.specs.Reading.{FindsNext, HasRead, IsWithin, Leaves, OnLine, Stays, UsesRoom, at_start, lines_left};
     ghost use Rattle.byte_streams.specs.ReaderSteps.{Continues, after_line};
     ghost use Rattle.byte_streams.specs.Search.{Finds, NoEndBelow};
+    ghost use Rattle.byte_streams.specs.Streams.{CountsEach};
 
     /// A reader that has taken nothing.
     pub fn new() -> LineReader
@@ -88,7 +88,7 @@ impl LineReader {
         // Each line takes up room, so there are no more lines than bytes.
         ensures room { UsesRoom result self.old.room self.new.room }
         ensures idle { self.old.ended ≡ true → source.new ≡ source.old }
-        ensures cause { CountsFailure (R.faults source.old) (R.faults source.new) (result ≡ NextLine.Failed) }
+        ensures cause { CountsEach (R.faults source.old) (R.faults source.new) (result ≡ NextLine.Failed) }
     {
         match self.fill(source) {
             Ok(Found::LineEnd(place)) => {
@@ -113,7 +113,7 @@ impl LineReader {
             (self.new.ended ≡ true)) }
         ensures none { OnErr result (NoEndBelow self.new.held (length self.new.held)
             × (length self.new.held < min SIZE (self.new.room + 1)) × (self.new.ended ≡ false)) }
-        ensures cause { CountsFailure (R.faults source.old) (R.faults source.new) (IsErr result) }
+        ensures cause { CountsEach (R.faults source.old) (R.faults source.new) (IsErr result) }
     {
         self.window.let_go(self.passed);
         self.line = 0;

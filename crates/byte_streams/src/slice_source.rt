@@ -1,8 +1,8 @@
 //! A source over bytes in memory.
 ghost use Rattle.std.specs.Prelude.{◌≡◌, ◌≤◌, ◌<◌, ◌↔◌, [], Some, length, take, min, is_err, IfOk, IsErr, OnErr};
 ghost use Rattle.std.specs.Io.KnownBytes.{prepend_known};
-ghost use Rattle.uicc_types.specs.Counts.{CountsFailure};
 ghost use Rattle.byte_streams.specs.Planned.{FailsNext, no_calls, with_call};
+ghost use Rattle.byte_streams.specs.Streams.{CountsEach};
 
 use crate::planned::is_planned;
 use crate::streams::{Failed, Source};
@@ -58,7 +58,7 @@ impl Source for SliceSource<'_> {
             (Some self.new.left)) }
         ensures end { IfOk result (λ count. 0 < length out.old → (count ≡ 0) ↔ (self.old.left ≡ [])) }
         ensures err { OnErr result (Some self.new.left ≡ Some self.old.left) }
-        ensures cause { CountsFailure self.old.calls.failed self.new.calls.failed (IsErr result) }
+        ensures cause { CountsEach self.old.calls.failed self.new.calls.failed (IsErr result) }
         ensures fails { IsErr result ↔ FailsNext self.old.calls }
         ensures amount { IfOk result (λ count. count ≡ min (length out.old) (length self.old.left)) }
         ensures calls { self.new.calls ≡ with_call (is_err result) self.old.calls }

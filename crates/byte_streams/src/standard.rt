@@ -30,8 +30,9 @@ impl<I: Read> InputSource<I> {
 impl<I: Read> Source for InputSource<I> {
     ghost use Rattle.std.specs.Prelude.{◌≡◌, ◌≤◌, None, length, if◌then◌else◌, is_err, IfOk, IsErr};
     ghost use Rattle.std.specs.Io.KnownBytes.{ReadConsumes};
-    ghost use Rattle.uicc_types.specs.Counts.{CountsFailure, raised};
+    ghost use Rattle.uicc_types.specs.Counts.{raised};
     ghost use Rattle.byte_streams.specs.Standard.{reader_of, source_faults};
+    ghost use Rattle.byte_streams.specs.Streams.{CountsEach};
 
     ghost faults = { source_faults };
 
@@ -39,7 +40,7 @@ impl<I: Read> Source for InputSource<I> {
 
     fn take(&mut self, out: &mut [u8]) -> Result<usize, Failed>
         ensures within { IfOk result (λ count. count ≤ length out.old) }
-        ensures cause { CountsFailure (source_faults self.old) (source_faults self.new) (IsErr result) }
+        ensures cause { CountsEach (source_faults self.old) (source_faults self.new) (IsErr result) }
 
         // It hands on what the reader gave, and no other bytes.
         ensures bytes { ReadConsumes (I.remaining (reader_of self.old))

@@ -3,7 +3,7 @@ ghost use Rattle.std.specs.Prelude.{◌≡◌, ◌≤◌, ◌<◌, ◌↔◌, �
 ghost use Rattle.std.specs.Io.KnownBytes.{append_known, prepend_known};
 ghost use Rattle.uicc_types.specs.Counts.{CountsFailure};
 ghost use Rattle.uicc_types.specs.Told.{Becomes};
-ghost use Rattle.byte_streams.specs.Streams.{TakesFront};
+ghost use Rattle.byte_streams.specs.Streams.{CountsEach, TakesFront};
 
 /// A source or a sink failed in this call. It has counted the fault.
 #[derive(Debug, Clone, Copy, PartialEq, Eq)]
@@ -11,7 +11,7 @@ pub struct Failed;
 
 /// Where bytes come from, in pieces of any size.
 pub trait Source {
-    /// How often the source has failed. The count never falls, and stands still at 2^64 - 1.
+    /// How often the source has failed: each failure counts once, and nothing else does. The count stands still at 2^64 - 1.
     ghost faults: { Self → ℕ };
 
     /// The bytes that are left, where the source tells them.
@@ -25,7 +25,7 @@ pub trait Source {
         ensures end { IfOk result (λ count. 0 < length out.old
             → IfSome (left self.old) (λ rest. (count ≡ 0) ↔ (rest ≡ []))) }
         ensures err { OnErr result (left self.new ≡ left self.old) }
-        ensures cause { CountsFailure (faults self.old) (faults self.new) (IsErr result) };
+        ensures cause { CountsEach (faults self.old) (faults self.new) (IsErr result) };
 }
 
 /// Where bytes go.

@@ -1,8 +1,8 @@
 //! The buffer of a reader of lines: what was taken from a source and not let go.
 ghost use Rattle.std.specs.Prelude.{◌≡◌, ◌≤◌, ◌<◌, ◌+◌, ◌-◌, ◌++◌, ◌⊎◌, List, ℕ, [], IsTrue, IsFalse, MatchOption, IsErr, IfOk, IfSome, OnErr, length, drop, slice_range};
 ghost use Rattle.std.specs.Io.KnownBytes.{prepend_known, IsAtEnd};
-ghost use Rattle.uicc_types.specs.Counts.{CountsFailure};
 ghost use Rattle.byte_streams.specs.Search.{Finds, IsFirstEnd, NoEndBelow, TakesMore};
+ghost use Rattle.byte_streams.specs.Streams.{CountsEach};
 
 use crate::limits::LONGEST_LINE;
 use crate::streams::{Failed, Source};
@@ -82,7 +82,7 @@ impl Window {
         ensures small { length self.new ≤ most }
         ensures found { IfOk result (λ found. Finds found self.new most (IsTrue ended ⊎ IsAtEnd (R.left source.new))) }
         ensures none { OnErr result (NoEndBelow self.new (length self.new) × (length self.new < most) × IsFalse ended) }
-        ensures cause { CountsFailure (R.faults source.old) (R.faults source.new) (IsErr result) }
+        ensures cause { CountsEach (R.faults source.old) (R.faults source.new) (IsErr result) }
     {
         match line_end(self.as_slice()) {
             Some(place) => Ok(Found::LineEnd(place)),
@@ -105,7 +105,7 @@ impl Window {
         ensures small { length self.new ≤ most }
         ensures found { IfOk result (λ found. Finds found self.new most (IsTrue ended ⊎ IsAtEnd (R.left source.new))) }
         ensures none { OnErr result (NoEndBelow self.new (length self.new) × (length self.new < most) × IsFalse ended) }
-        ensures cause { CountsFailure (R.faults source.old) (R.faults source.new) (IsErr result) }
+        ensures cause { CountsEach (R.faults source.old) (R.faults source.new) (IsErr result) }
     {
         'pieces: loop {
             if ended {
@@ -138,7 +138,7 @@ impl Window {
         ensures within { IfOk result (λ count. count ≤ most) }
         ensures end { IfOk result (λ count. count ≡ 0 → 0 < most → IfSome (R.left source.old) (λ rest. rest ≡ [])) }
         ensures err { OnErr result ((self.new ≡ self.old) × (R.left source.new ≡ R.left source.old)) }
-        ensures cause { CountsFailure (R.faults source.old) (R.faults source.new) (IsErr result) }
+        ensures cause { CountsEach (R.faults source.old) (R.faults source.new) (IsErr result) }
     {
         self.end = move_to_front(self.bytes.as_mut_slice(), self.start, self.end);
         self.start = 0;

@@ -1,8 +1,8 @@
 //! The lines of a script after `start`.
 ghost use Rattle.std.specs.Prelude.{◌≡◌, ◌≢◌, ◌<◌, ◌+◌, Bool, List, ℕ, Err, OnOk};
-ghost use Rattle.uicc_types.specs.Counts.{CountsFailure};
 ghost use Rattle.byte_streams.specs.Lines.{LineList};
 ghost use Rattle.byte_streams.specs.Reading.{IsWithin};
+ghost use Rattle.byte_streams.specs.Streams.{CountsEach};
 ghost use Rattle.script_form.specs.Bounds.{IsBounded};
 ghost use Rattle.script_form.specs.declared.lines.ScriptLine.{ScriptLine as AnyLine};
 ghost use Rattle.script_reader.specs.Behind.{GivesLine, end_for as end_of_fault};
@@ -41,7 +41,7 @@ pub fn read_behind<R: Source>(
         → GivesLine may text found script.new (R.left source.new) line.new result }
     ensures within { (text : List ℕ) → IsWithin text (reading script.old) (R.left source.old)
         → IsWithin text (reading script.new) (R.left source.new) }
-    ensures cause { CountsFailure (R.faults source.old) (R.faults source.new) (result ≡ Err PlayEnd.ReadFailed) }
+    ensures cause { CountsEach (R.faults source.old) (R.faults source.new) (result ≡ Err PlayEnd.ReadFailed) }
     ensures sink { result ≢ Err PlayEnd.SinkFailed }
     ensures memory { result ≢ Err PlayEnd.ResetFailed }
     ensures nearer { OnOk result (room_of script.new < room_of script.old) }

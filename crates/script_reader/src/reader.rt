@@ -18,9 +18,9 @@ pub struct ScriptReader {
 }
 
 impl ScriptReader {
-    ghost use Rattle.uicc_types.specs.Counts.{CountsFailure};
     ghost use Rattle.byte_streams.specs.Lines.{LineList};
     ghost use Rattle.byte_streams.specs.Reading.{IsWithin, at_start};
+    ghost use Rattle.byte_streams.specs.Streams.{CountsEach};
     ghost use Rattle.script_form.specs.Bounds.{IsBounded};
     ghost use Rattle.script_reader.specs.Reading.{Follows, GivesNext, reading, line_count, room_of};
 
@@ -47,7 +47,7 @@ impl ScriptReader {
             → GivesNext text given self.new (R.left source.new) line.new result }
         ensures within { (text : List ℕ) → IsWithin text (reading self.old) (R.left source.old)
             → IsWithin text (reading self.new) (R.left source.new) }
-        ensures cause { CountsFailure (R.faults source.old) (R.faults source.new)
+        ensures cause { CountsEach (R.faults source.old) (R.faults source.new)
             (result ≡ Err ScriptFault.ReadFailed) }
         // A line uses up something of what may be read.
         ensures nearer { result ≡ Ok true → room_of self.new < room_of self.old }

@@ -1,7 +1,7 @@
 //! The first part of a script: what the card holds.
 ghost use Rattle.std.specs.Prelude.{◌≡◌, ◌<◌, List, ℕ, Option, Ok, Err, true, false};
-ghost use Rattle.uicc_types.specs.Counts.{CountsFailure};
 ghost use Rattle.byte_streams.specs.Reading.{IsWithin};
+ghost use Rattle.byte_streams.specs.Streams.{CountsEach};
 ghost use Rattle.script_reader.specs.Reading.{reading, room_of};
 ghost use Rattle.card_state.specs.Persistent.{Persistent};
 ghost use Rattle.layout_section.specs.Adding.{Adds};
@@ -30,7 +30,7 @@ pub fn read_section<R: Source, B: Applet>(
         → GivesSection (minds_of B.mind cast.now) first text script.new (R.left source.new) card.new result }
     ensures within { (text : List ℕ) → IsWithin text (reading script.old) (R.left source.old)
         → IsWithin text (reading script.new) (R.left source.new) }
-    ensures cause { CountsFailure (R.faults source.old) (R.faults source.new) (result ≡ Err ScriptFault.ReadFailed) }
+    ensures cause { CountsEach (R.faults source.old) (R.faults source.new) (result ≡ Err ScriptFault.ReadFailed) }
 {
     let mut line = ScriptLine::Passed;
     while !read_section_line(script, source, cast, card, &mut line)? {}
@@ -50,7 +50,7 @@ fn read_section_line<R: Source, B: Applet>(
         → GivesSectionLine (minds_of B.mind cast.now) first text script.new (R.left source.new) card.new result }
     ensures within { (text : List ℕ) → IsWithin text (reading script.old) (R.left source.old)
         → IsWithin text (reading script.new) (R.left source.new) }
-    ensures cause { CountsFailure (R.faults source.old) (R.faults source.new) (result ≡ Err ScriptFault.ReadFailed) }
+    ensures cause { CountsEach (R.faults source.old) (R.faults source.new) (result ≡ Err ScriptFault.ReadFailed) }
     ensures nearer { result ≡ Ok false → room_of script.new < room_of script.old }
 {
     match script.next(source, line) {

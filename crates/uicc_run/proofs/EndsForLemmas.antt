@@ -1,6 +1,7 @@
 -- A run whose card was open ends as its lines do.
-use Rattle.std.proofs.Common.{◌≡◌, ℕ, Result, Ok, Err, refl, sym, subst, inl, is_some, IsErr}
+use Rattle.std.proofs.Common.{◌≡◌, ℕ, Result, Ok, Err, refl, sym, ap, subst, inl, is_some, IsErr}
 use Rattle.uicc_types.specs.Counts.{CountsFailure, Meter, Rose}
+use Rattle.byte_streams.specs.Streams.{CountsEach}
 use Rattle.script_reader.specs.declared.behind.PlayEnd.{PlayEnd}
 use Rattle.script_reader.specs.declared.behind.PlayEnd.TheVariants as play
 use Rattle.long_runs.specs.declared.counts.Counts.{Counts}
@@ -35,10 +36,10 @@ for_its_memory play.ResetFailed is = refl
 same_end : (end other : PlayEnd) → Played end ≡ Played other → end ≡ other
 same_end end other is = cc is
 
-pub ends_played : (end : PlayEnd) (before after : World) (TraceIsSame BoxesAreSame : Type 0) → CountsFailure before.source after.source (end ≡ play.ReadFailed) → CountsFailure before.sink after.sink (end ≡ play.SinkFailed)
+pub ends_played : (end : PlayEnd) (before after : World) (TraceIsSame BoxesAreSame : Type 0) → CountsEach before.source after.source (end ≡ play.ReadFailed) → CountsFailure before.sink after.sink (end ≡ play.SinkFailed)
     → (end ≡ play.ResetFailed → Rose before.meter.faults after.meter.faults) → is_some after.taken ≡ is_some before.taken → EndsFor (Played end) before after TraceIsSame ⊥ BoxesAreSame
 ends_played end before after TraceIsSame BoxesAreSame source sink memory tells = record {
-  source_cause = record { kept = source.kept; rose = λ three. source.rose (for_its_source end three) };
+  source_cause = record { failed = λ three. source.failed (for_its_source end three); no_failure = λ other. source.no_failure (λ is. other (ap (λ e. status_for (Played e)) is)) };
   sink_cause = record { kept = sink.kept; rose = λ four. sink.rose (for_its_sink end four) };
   memory_cause = λ six. inl (memory (for_its_memory end six));
   reset_cause = λ reset. memory (same_end end play.ResetFailed reset);

@@ -1,5 +1,6 @@
 -- Each status comes of one ending: the others are ruled out by its number or by sound devices, so that the script tells which it is.
 use Rattle.std.proofs.Common.{◌≡◌, ◌⊎◌, ℕ, Bool, true, false, List, Option, arith}
+use Rattle.byte_streams.proofs.StreamsLemmas.{raised_rose}
 use Rattle.command_line.specs.Model.{AskForRun}
 use Rattle.uicc_run.specs.Endings.{status_for}
 use Rattle.uicc_run.specs.Headline.{Closes, Comes}
@@ -27,7 +28,7 @@ module _ (words : List (List ℕ)) (status : ℕ) (before after : World) (ending
 
   sound_lines : (given : Given) (told : Bool) → RunsFrom given told words before → AskForRun words → IsUndisturbed (seen status before after) → Verdict given told status after.left after.taken
   sound_lines given told from asks sound =
-      lines_of given told from (λ one. usage.usage_only one asks) (λ three. sound.source_sound (causes.source_failed.rose three)) (λ four. sound.sink_sound (causes.sink_failed.rose four)) sound.memory_sound
+      lines_of given told from (λ one. usage.usage_only one asks) (λ three. sound.source_sound (raised_rose _ _ (causes.source_failed.failed three))) (λ four. sound.sink_sound (causes.sink_failed.rose four)) sound.memory_sound
 
   by_script : (given : Given) → RunsFrom given false words before → EndsByScript given words (seen status before after)
   by_script given from = record {

@@ -580,6 +580,10 @@ not_usage ending status closed seven usage =
 pub one_is : (ending : Ending) (status : ℕ) → (status ≡ status_for ending) ⊎ (status ≡ 4) → status ≡ 1 → ending ≡ Usage
 one_is ending status closed is = ⊎_elim {C = ending ≡ Usage} (λ own. (by_status ending).one (sym own ∙ is)) (λ four. absurd (omega (arith, four, is))) closed
 
+-- only a run whose script can't be read on ends with 3
+pub three_is : (ending : Ending) (status : ℕ) → (status ≡ status_for ending) ⊎ (status ≡ 4) → status ≡ 3 → status_for ending ≡ 3
+three_is ending status closed is = ⊎_elim {C = status_for ending ≡ 3} (λ own. sym own ∙ is) (λ four. absurd (omega (arith, four, is))) closed
+
 -- a fault was counted in a reset, or nothing was shown but the last line
 pub six_shows : (ending : Ending) (start before taken : Option (List ℕ)) (status : ℕ) (HasFault : Type 0) → Closes ending before taken status → (ending ≡ Played play.ResetFailed → HasFault) → (IsUnshown ending → before ≡ start) → status ≡ 6
     → HasFault ⊎ (taken ≡ append_known start (last_text EepromFailed))

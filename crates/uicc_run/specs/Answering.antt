@@ -1,6 +1,7 @@
 -- What the program answers where its words ask for no page: what `run` says, over a device and boxes that are gone at the end.
 use Rattle.std.specs.Prelude.{◌≡◌, ◌⊎◌, ◌+◌, ◌≤◌, ℕ, Bool, true, false, List, Option, Some, None}
 use Rattle.uicc_types.specs.Counts.{CountsFailure, Meter}
+use Rattle.byte_streams.specs.Streams.{CountsOnce}
 use Rattle.byte_streams.specs.Reading.{IsTaken}
 use Rattle.byte_streams.specs.declared.limits.TheConstants.{MOST_BYTES}
 use Rattle.card_state.specs.Persistent.{Persistent}
@@ -87,5 +88,5 @@ pub record RefusesUseless (words : List (List ℕ)) (status : ℕ) (before after
 pub record HasOuterCauses (words : List (List ℕ)) (status : ℕ) (before after : World) (ScriptIsSame : Type 0) : Type 0 where
   pub load_unread : (start count : ℕ) → AskToLoad words start count → ScriptIsSame
   pub statuses : status ≤ 8
-  pub source_failed : CountsFailure before.source after.source (status ≡ 3)
+  pub source_failed : CountsOnce before.source after.source (status ≡ 3)
   pub sink_failed : CountsFailure before.sink after.sink (status ≡ 4)

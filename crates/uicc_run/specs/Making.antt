@@ -2,6 +2,7 @@
 use Rattle.std.specs.Prelude.{◌≡◌, ◌≢◌, ◌⊎◌, ◌≤◌, ℕ, Bool, true, List, [], length, Option, Some, None, Result, Ok, Err, IfSome, is_some}
 use Rattle.uicc_types.specs.Counts.{Meter, Caused, CountsFailure, Rose}
 use Rattle.uicc_types.specs.Told.{Becomes}
+use Rattle.byte_streams.specs.Streams.{CountsEach}
 use Rattle.byte_streams.specs.declared.streams.Sink.{Ghosts as SinkWords}
 use Rattle.byte_streams.specs.declared.streams.Source.{Ghosts as SourceWords}
 use Rattle.script_form.specs.declared.lines.ScriptLine.{ScriptLine}
@@ -114,7 +115,7 @@ pub record KeepsStoreForm {S : Type 0} (words : StoreWords S) (old new : S) (IsF
 -- was counted. A sink that tells what it has taken goes on telling it. The trace stays where the memory failed before a card was open,
 -- the memory where nothing was done to it, and the boxes where no card was open; what each of these is.
 pub record EndsFor (ending : Ending) (before after : World) (TraceIsSame MemoryIsSame BoxesAreSame : Type 0) : Type 0 where
-  pub source_cause : CountsFailure before.source after.source (status_for ending ≡ 3)
+  pub source_cause : CountsEach before.source after.source (status_for ending ≡ 3)
   pub sink_cause : CountsFailure before.sink after.sink (status_for ending ≡ 4)
   pub memory_cause : status_for ending ≡ 6 → HasFailed before.meter after.meter
   pub reset_cause : ending ≡ Played play.ResetFailed → Rose before.meter.faults after.meter.faults

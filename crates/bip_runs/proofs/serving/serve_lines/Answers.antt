@@ -8,7 +8,7 @@ pub loop-end-preserved : goal.loop-end-preserved
 loop-end-preserved g c = record {
   serving = λ text before serving. c.in_default.ensures.served text before (c.loop-end.invariant.serving text before serving);
   within = λ text within. c.serve_line.ensures.within text (c.loop-end.invariant.within text within);
-  source_kept = let before = c.loop-end.invariant.source_kept in let now = c.serve_line.ensures.source_cause.kept in omega arith;
+  no_failure = c.serve_line.ensures.source_cause.no_failure (λ is. cc is) ∙ c.loop-end.invariant.no_failure;
   sink_kept = let before = c.loop-end.invariant.sink_kept in let now = c.serve_line.ensures.sink_cause.kept in omega arith;
   tells = c.serve_line.ensures.tells ∙ c.loop-end.invariant.tells;
 }

@@ -10,7 +10,7 @@ invariant-loop-end g l = record {
   serving : (text : List ℕ) (before : Option (List ℕ)) → IsServing text before Before l.initial.script (g.R.Source.left l.initial.source) (g.W.Sink.taken l.initial.trace) l.initial.bip
       → IsServing text before l.place l.script (g.R.Source.left l.source) (g.W.Sink.taken l.trace) l.bip;
   within : (text : List ℕ) → IsWithin text l.initial.script.reader (g.R.Source.left l.initial.source) → IsWithin text l.script.reader (g.R.Source.left l.source);
-  source_kept : g.R.Source.faults l.initial.source ≤ g.R.Source.faults l.source;
+  no_failure : g.R.Source.faults l.source ≡ g.R.Source.faults l.initial.source;
   sink_kept : g.W.Sink.faults l.initial.trace ≤ g.W.Sink.faults l.trace;
   tells : is_some (g.W.Sink.taken l.trace) ≡ is_some (g.W.Sink.taken l.initial.trace);
 }

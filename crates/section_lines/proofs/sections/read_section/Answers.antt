@@ -1,4 +1,4 @@
-use Rattle.std.proofs.Common.{true, false, ◌≡◌, arith, rules}
+use Rattle.std.proofs.Common.{true, false, ◌≡◌, ◌∙◌, rules}
 use Rattle.section_lines.proofs.sections.read_section.Goals as goal
 
 pub returns-in_err-read_section_line-clause-card : goal.returns-in_err-read_section_line-clause-card
@@ -13,7 +13,7 @@ loop-preserved g c =
     record {
       section = λ first text section. line first text (c.loop.invariant.section first text section);
       within = λ text within. c.in_ok-read_section_line.ensures.within text (c.loop.invariant.within text within);
-      source_kept = omega (arith, c.loop.invariant.source_kept, c.in_ok-read_section_line.ensures.cause.kept);
+      no_failure = c.in_ok-read_section_line.ensures.cause.no_failure (λ is. cc is) ∙ c.loop.invariant.no_failure;
     }
 
 pub returns-clause-card : goal.returns-clause-card

@@ -20,7 +20,7 @@ invariant-loop-script g l = record {
   between : is_handset l.listener ≡ true → IsBetweenLines l.script l.phone;
   within : (text : List ℕ) → IsWithin text l.initial.script.reader (g.R.Source.left l.initial.source) → IsWithin text l.script.reader (g.R.Source.left l.source);
   kept : l.initial.card.parts.meter.faults ≤ l.card.parts.meter.faults;
-  source_kept : g.R.Source.faults l.initial.source ≤ g.R.Source.faults l.source;
+  no_failure : g.R.Source.faults l.source ≡ g.R.Source.faults l.initial.source;
   sink_kept : g.W.Sink.faults l.initial.trace ≤ g.W.Sink.faults l.trace;
   tells : is_some (g.W.Sink.taken l.trace) ≡ is_some (g.W.Sink.taken l.initial.trace);
 }

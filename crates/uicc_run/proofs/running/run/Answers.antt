@@ -1,13 +1,15 @@
 -- What is known before the last line, and what that line is.
 use Rattle.std.proofs.Common.{◌≡◌, ℕ, List, Some, false, ap, arith, map, string_bytes, subst, ◌∙◌}
 use Rattle.std.proofs.lemmas.Grind.{common_steps}
+use Rattle.byte_streams.proofs.StreamsLemmas.{once, raised_rose}
+use Rattle.uicc_run.specs.Endings.{status_for}
 use Rattle.uicc_run.specs.Headline.{Closes}
 use Rattle.uicc_run.specs.Running.{HasCauses, RefusesWords}
 use Rattle.uicc_run.specs.Terminals.{AskForBip, TracesBip}
 use Rattle.uicc_run.specs.Worlds.{seen, world}
 use Rattle.uicc_run.proofs.TerminalsLemmas.{rose_on, serves_to_end, status_low}
 use Rattle.uicc_run.proofs.RunningLemmas.{statuses_so}
-use Rattle.uicc_run.proofs.ScriptsLemmas.{five_is, one_is, six_shows}
+use Rattle.uicc_run.proofs.ScriptsLemmas.{five_is, one_is, six_shows, three_is}
 use Rattle.uicc_run.proofs.TellsNextLemmas.{closes_tells}
 use Rattle.uicc_run.proofs.running.run.Goals as goal
 
@@ -21,7 +23,7 @@ returns g c =
     let put = g.W.Sink.taken c.carry_out-ending.new.trace in
     let causes : HasCauses status before after = record {
       statuses = grind (arith, common_steps);
-      source_failed = grind (arith, common_steps);
+      source_failed = once _ _ (status_for ending) 3 status c.carry_out-ending.ensures.ends.source_cause (three_is ending status c.close.ensures.status);
       sink_failed = grind (arith, common_steps);
       memory_failed = grind (arith, common_steps);
       reset_failed = λ six.
@@ -38,7 +40,7 @@ returns g c =
     λ text asks told. record {
       ending = ending;
       cause = record {
-        read_failed = c.carry_out-ending.ensures.ends.source_cause.rose;
+        read_failed = λ three. raised_rose _ _ (c.carry_out-ending.ensures.ends.source_cause.failed three);
         sink_failed = λ four. rose_on _ _ _ (c.carry_out-ending.ensures.ends.sink_cause.rose four) c.close.ensures.cause.0;
       };
       put = put;
@@ -51,7 +53,7 @@ returns g c =
           ending = ending;
           cause = record {
             usage = c.carry_out-ending.ensures.usage.usage_only;
-            read_failed = c.carry_out-ending.ensures.ends.source_cause.rose;
+            read_failed = λ three. raised_rose _ _ (c.carry_out-ending.ensures.ends.source_cause.failed three);
             eeprom_failed = c.carry_out-ending.ensures.ends.memory_cause;
             untouched = c.carry_out-ending.ensures.ends.untouched;
             boxes_kept = c.carry_out-ending.ensures.ends.boxes;
@@ -80,7 +82,7 @@ returns g c =
       };
       statuses = statuses_so words status before after ending put c.close.ensures.closed c.close.ensures.status c.carry_out-ending.ensures.comes
           c.carry_out-ending.ensures.usage.usage usage causes (λ given told start count from. (_, (c.carry_out-ending.ensures.load start count (from.devices, from.words_are)).comes given told after.taken from))
-          (serves_to_end words status before after bip (λ asks. status_low _ status c.close.ensures.status (c.carry_out-ending.ensures.bip asks).low) causes.source_failed.rose causes.sink_failed.rose);
+          (serves_to_end words status before after bip (λ asks. status_low _ status c.close.ensures.status (c.carry_out-ending.ensures.bip asks).low) (λ three. raised_rose _ _ (causes.source_failed.failed three)) causes.sink_failed.rose);
       stays = record {
         untouched = grind (arith, common_steps);
         bip_untouched = λ asks. let channels = c.carry_out-ending.ensures.bip asks in (channels.memory_kept, channels.boxes_kept);

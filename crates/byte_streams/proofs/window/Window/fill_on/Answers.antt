@@ -21,5 +21,5 @@ pieces-preserved g c =
       idle = search rules;
       small = stays_small _ _ _ _ _ _ taken.2 taken.1 c.as_slice-searched.ensures.value c.if-searched-most.false c.in-Ok.ensures.within;
       none = subst (λ (bytes : List ℕ). NoEndBelow bytes (length bytes)) c.as_slice.ensures.value c.in_default.ensures;
-      no_fewer = search rules;
+      no_failure = search rules;
     }

@@ -8,7 +8,7 @@ pub record Searched (old : List ℕ) (left : Option (List ℕ)) (new : List ℕ)
   pub idle : ended ≡ true → (new ≡ old) × Same
   pub small : length new ≤ most
   pub none : NoEndBelow new (length new)
-  pub no_fewer : faults ≤ faults_then
+  pub no_failure : faults_then ≡ faults
 
 abbrev pub invariant-pieces : goal.invariant-pieces
 invariant-pieces g l = Searched l.initial.self (g.R.Source.left l.initial.source) l.self (g.R.Source.left l.source) l.most l.ended (g.R.Source.faults l.initial.source) (g.R.Source.faults l.source) (l.source ≡ l.initial.source)
