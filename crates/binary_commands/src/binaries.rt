@@ -158,6 +158,8 @@ fn update_file<S: Store>(
         out.new (λ state. update_in state seen.now selection.now command.now file.now) }
     ensures passes { Passes result (memory S.Store store.old loaded.now) (memory S.Store store.new loaded.now)
         selection.now (λ state. update_in state seen.now selection.now command.now file.now) }
+    ensures puts { Puts result (memory S.Store store.old loaded.now) (memory S.Store store.new loaded.now)
+        (λ state. PutBytes file.now.number (offset_of command.now) command.now.body ∷ []) }
     ensures ends { EndsTry result (memory S.Store store.old loaded.now) (memory S.Store store.new loaded.now)
         out.old out.new }
 {
@@ -189,6 +191,8 @@ fn try_update<S: Store>(
         out.new (λ state. binary_updated state seen.now selection.now command.now) }
     ensures passes { Passes result (memory S.Store store.old loaded.now) (memory S.Store store.new loaded.now)
         selection.now (λ state. binary_updated state seen.now selection.now command.now) }
+    ensures writes { WritesAll result (memory S.Store store.old loaded.now) (memory S.Store store.new loaded.now)
+        (λ state. (settled_file selection.now (binary_updated state seen.now selection.now command.now)).changes) }
     ensures refused { (status : StatusWord)
         → binary_to_update (descriptors_of loaded.now) selection.now command.now ≡ Err status
         → (result ≡ Ok (Err status)) × (store.new ≡ store.old) }
@@ -253,6 +257,8 @@ pub fn update_binary<S: Store>(
         (λ state. settled_file selection.old (binary_updated state seen.now selection.old command.now)) }
     ensures still { StaysStill (memory S.Store store.old loaded.old) (memory S.Store store.new loaded.new)
         (λ state. (settled_file selection.old (binary_updated state seen.now selection.old command.now)).passed) }
+    ensures writes { WritesAll result (memory S.Store store.old loaded.old) (memory S.Store store.new loaded.new)
+        (λ state. (settled_file selection.old (binary_updated state seen.now selection.old command.now)).changes) }
     ensures ends { EndsWell result (memory S.Store store.old loaded.old) (memory S.Store store.new loaded.new)
         out.new selection.new }
     ensures table { loaded.new ≡ loaded.old }

@@ -10,4 +10,5 @@ mod PinsLemmas
 mod PreparesLemmas
 mod RowsLemmas
 mod TablesTellStatesLemmas
+mod WritingLemmas
 mod worked
