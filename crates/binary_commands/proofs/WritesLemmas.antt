@@ -1,5 +1,5 @@
 -- What a command on a file has written, by its meaning, from what its one commit writes.
-use Rattle.std.proofs.Common.{◌≡◌, ◌⊎◌, ℕ, ◌+◌, ◌≤◌, Bool, true, false, List, [], ◌∷◌, length, take, Option, Some, None, option_map, Result, Ok, Err, IsErr, IfOk, IfSome, IsOkAnd, refl, sym, ◌∙◌, ap, subst, inl, inr, ⊎_elim, arith}
+use Rattle.std.proofs.Common.{◌≡◌, ◌⊎◌, Bool, true, false, List, [], take, Some, option_map, Result, Ok, Err, IsErr, IfOk, IfSome, IsOkAnd, refl, sym, ◌∙◌, ap, subst, inl, inr, ⊎_elim, arith}
 use Rattle.list_laws.proofs.IfSomeLemmas.{if_some, if_some_at}
 use Rattle.uicc_types.specs.declared.answers.Answer.{Answer}
 use Rattle.uicc_types.specs.declared.answers.StatusWord.{StatusWord}
@@ -12,33 +12,11 @@ use Rattle.file_model.specs.declared.selections.Selection.{Selection}
 use Rattle.file_model.specs.Chains.{refused_if, and_given}
 use Rattle.file_model.specs.Files.{descriptors_in, descriptors_of}
 use Rattle.file_model.specs.Outcomes.{FileOutcome, settled_file}
-use Rattle.card_commits.specs.Writing.{written, all_written}
 use Rattle.card_commits.specs.Performing.{StopsAmong, WritesAll}
+use Rattle.card_commits.specs.Writing.{all_written}
+use Rattle.card_commits.proofs.WritesAllLemmas.{none_written, writes_alike}
 use Rattle.binary_commands.specs.Targets.{Gives}
 use Rattle.binary_commands.specs.Ends.{Tried, GivesTried, Passes, Puts}
-
-abbrev Told : Type 0
-Told = Option (List ℕ)
-
--- ---- the bytes after no change, and after one
-
-pub none_written : (told : Told) → told ≡ option_map (all_written []) told
-unfolding all_written
-none_written None = refl
-none_written (Some content) = refl
-
-pub one_written : (change : Change) (told : Told) → option_map (written change) told ≡ option_map (all_written (change ∷ [])) told
-unfolding all_written
-one_written change None = refl
-one_written change (Some content) = refl
-
--- a commit after calls that leave the bytes
-pub put_after : (change : Change) (before mid after : Told) → mid ≡ before → after ≡ option_map (written change) mid → after ≡ option_map (all_written (change ∷ [])) before
-put_after change before mid after same put = put ∙ ap (option_map (written change)) same ∙ one_written change before
-
-pub put_or_not : (change : Change) (before mid after : Told) → mid ≡ before → (after ≡ mid) ⊎ (after ≡ option_map (written change) mid) → (after ≡ before) ⊎ (after ≡ option_map (all_written (change ∷ [])) before)
-put_or_not change before mid after same how =
-    ⊎_elim {C = (after ≡ before) ⊎ (after ≡ option_map (all_written (change ∷ [])) before)} (λ kept. inl (kept ∙ same)) (λ put. inr (put_after change before mid after same put)) how
 
 -- ---- what was tried
 
@@ -95,12 +73,6 @@ module _ (old new : Memory) (selection : Selection) (meaning : Persistent → Re
       if_some (held old) _ (λ state is. stopped_by state (meaning state) (makes.made state) (if_some_at (held old) _ state passes.still is) passes.stopped.commits (if_some_at (held old) _ state puts is))
 
 -- ---- the file that a command works on, and the rest
-
-writes_alike : {X E : Type 0} (result : Result X E) (old new : Memory) (f g : Persistent → List Change) → ((state : Persistent) → held old ≡ Some state → f state ≡ g state) → WritesAll result old new g → WritesAll result old new f
-writes_alike (Ok done) old new f g same writes =
-    if_some (held old) _ (λ state is. if_some_at (held old) _ state writes is ∙ ap (λ (list : List Change). option_map (all_written list) old.told) (sym (same state is)))
-writes_alike (Err fault) old new f g same writes =
-    if_some (held old) _ (λ state is. subst (λ (list : List Change). StopsAmong list old new) (sym (same state is)) (if_some_at (held old) _ state writes is))
 
 module _ (old : Memory) (told : (state : Persistent) → held old ≡ Some state → descriptors_in state ≡ descriptors_of old.table) (addressing : List Descriptor → Result Descriptor StatusWord) (rest : Persistent → Descriptor → Result FileOutcome StatusWord)
     (found : Result Descriptor StatusWord) (is_found : found ≡ addressing (descriptors_of old.table)) (selection : Selection) where

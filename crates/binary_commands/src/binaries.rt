@@ -1,16 +1,17 @@
 //! READ BINARY and UPDATE BINARY.
-ghost use Rattle.std.specs.Prelude.{◌≡◌, ◌≢◌, ◌+◌, ◌≤◌, [], ◌==◌, ◌||◌, true, if◌then◌else◌, length, take, drop, Err, IfOk, IfSome, IsOk, Ok, OnOk, OnErr};
+ghost use Rattle.std.specs.Prelude.{◌≡◌, ◌≢◌, ◌+◌, ◌≤◌, [], ◌∷◌, ◌==◌, ◌||◌, true, if◌then◌else◌, length, take, drop, Err, IfOk, IfSome, IsOk, Ok, OnOk, OnErr};
 ghost use Rattle.uicc_types.specs.Counts.{raised};
+ghost use Rattle.card_state.specs.Changes.{PutBytes};
 ghost use Rattle.card_state.specs.Memory.{IsMounted, Reads, held_by, memory};
 ghost use Rattle.file_model.specs.declared.descriptors.Descriptor.{Descriptor};
 ghost use Rattle.file_model.specs.Files.{descriptors_of};
 ghost use Rattle.file_model.specs.Holdings.{bytes_in};
-ghost use Rattle.file_model.specs.Binaries.{binary_to_read, binary_to_update, read_from, binary_read, update_in, binary_updated};
+ghost use Rattle.file_model.specs.Binaries.{offset_of, binary_to_read, binary_to_update, read_from, binary_read, update_in, binary_updated};
 ghost use Rattle.apdu_form.specs.Fields.{has_data};
 ghost use Rattle.file_model.specs.Outcomes.{settled_file};
-ghost use Rattle.card_commits.specs.Performing.{Performs, StaysStill};
+ghost use Rattle.card_commits.specs.Performing.{Performs, StaysStill, WritesAll};
 ghost use Rattle.binary_commands.specs.Commands.{IsSomeCommand, IsInPlace, IsBinaryFile, IsBinaryTarget};
-ghost use Rattle.binary_commands.specs.Ends.{EndsTry, EndsWell, GivesTried, Passes};
+ghost use Rattle.binary_commands.specs.Ends.{EndsTry, EndsWell, GivesTried, Passes, Puts};
 ghost use Rattle.binary_commands.specs.Reads.{access_reads, ReadsFile, ReadsOnce};
 ghost use Rattle.binary_commands.specs.Targets.{IsRefused};
 

@@ -10,5 +10,6 @@ mod PinsLemmas
 mod PreparesLemmas
 mod RowsLemmas
 mod TablesTellStatesLemmas
+pub mod WritesAllLemmas
 mod WritingLemmas
 mod worked

@@ -12,6 +12,11 @@ use Rattle.binary_commands.proofs.GivesLemmas.{left_by}
 use Rattle.record_commands.proofs.KeepsSelectionsLemmas.{told_keeps}
 use Rattle.record_commands.proofs.SettledFileLemmas.{one_passes, one_changes, reads_held, life_passed}
 use Rattle.record_commands.proofs.lives.change_file.Goals as goal
+use Rattle.std.proofs.Common.{List, cond, ap, option_map, eq-eqb}
+use Rattle.card_state.specs.Changes.{Change, PutLife}
+use Rattle.card_commits.specs.Writing.{all_written}
+use Rattle.card_commits.proofs.WritesAllLemmas.{none_written, put_after, put_or_not}
+use Rattle.binary_commands.proofs.WritesLemmas.{puts_stopped, puts_nothing}
 
 pub returns-in_err-write_life-clause-passes : goal.returns-in_err-write_life-clause-passes
 returns-in_err-write_life-clause-passes g c =
@@ -41,3 +46,17 @@ returns-clause-ends g c = record {
   table = tt;
   keeps = search rules;
 }
+
+pub returns-in_err-is_allowed-clause-puts : goal.returns-in_err-is_allowed-clause-puts
+returns-in_err-is_allowed-clause-puts g c = puts_nothing c.from_residual-in_err-is_allowed.result _ _ _ c.from_residual-in_err-is_allowed.ensures.0 c.in_err-is_allowed.ensures.reads.stable
+
+pub returns-in_err-write_life-clause-puts : goal.returns-in_err-write_life-clause-puts
+returns-in_err-write_life-clause-puts g c =
+    puts_stopped c.from_residual-in_err-write_life.result _ _ _ c.from_residual-in_err-write_life.ensures.0
+    (if_some (held_by g.S.Store c.args.store.now) _ (λ state is. rw (ne_eqb c.args.file.now.life c.args.change.life c.if-file-change.false)
+    (put_or_not (PutLife c.args.file.now.number c.args.change.life) _ _ _ c.is_allowed.ensures.reads.stable c.in_err-write_life.ensures.writes.whole)))
+
+pub returns-clause-puts : goal.returns-clause-puts
+returns-clause-puts g c =
+    if_some (held_by g.S.Store c.args.store.now) _ (λ state is. rw (ne_eqb c.args.file.now.life c.args.change.life c.if-file-change.false)
+    (put_after (PutLife c.args.file.now.number c.args.change.life) _ _ _ c.is_allowed.ensures.reads.stable c.in_ok-write_life.ensures.writes.ok))
