@@ -2,7 +2,7 @@ mod CommitsOverLemmas
 mod CommittedLemmas
 mod DescriptorsOfLemmas
 mod EntriesLemmas
-mod FilledLemmas
+pub mod FilledLemmas
 mod HasRecordLemmas
 mod HeldByLemmas
 pub mod KeepsLemmas
@@ -11,5 +11,5 @@ mod PreparesLemmas
 mod RowsLemmas
 mod TablesTellStatesLemmas
 pub mod WritesAllLemmas
-mod WritingLemmas
+pub mod WritingLemmas
 mod worked

@@ -1,11 +1,12 @@
 -- What some changes have written, and what is written where a fault stops them.
-use Rattle.std.proofs.Common.{◌≡◌, ◌⊎◌, ℕ, List, [], ◌∷◌, Option, Some, None, option_map, Result, Ok, Err, IsErr, IfSome, refl, sym, ◌∙◌, ap, subst, inl, inr, ⊎_elim}
+use Rattle.std.proofs.Common.{◌≡◌, ◌⊎◌, ℕ, List, [], ◌∷◌, Option, Some, None, option_map, Result, Ok, Err, IsErr, IfSome, refl, sym, ◌∙◌, ap, subst, inl, inr, ⊎_elim, arith}
 use Rattle.list_laws.proofs.IfSomeLemmas.{if_some, if_some_at}
+use Rattle.store_form.specs.declared.store.StoreFault.{StoreFault}
 use Rattle.card_state.specs.Changes.{Change}
 use Rattle.card_state.specs.Memory.{Memory, held}
 use Rattle.card_state.specs.Persistent.{Persistent}
 use Rattle.card_commits.specs.Performing.{StopsAmong, WritesAll}
-use Rattle.card_commits.specs.Writing.{written, all_written}
+use Rattle.card_commits.specs.Writing.{written, all_written, Writes}
 
 abbrev pub Told : Type 0
 Told = Option (List ℕ)
@@ -51,3 +52,17 @@ writes_nothing value old new same = if_some (held old) _ (λ state is. same ∙ 
 pub stopped_writes : {X E : Type 0} (result : Result X E) (old new : Memory) (changes : Persistent → List Change) → IsErr result → IfSome (held old) (λ state. StopsAmong (changes state) old new) → WritesAll result old new changes
 stopped_writes (Ok value) old new changes is stops = absurd (cc)
 stopped_writes (Err fault) old new changes is stops = stops
+
+-- one commit
+pub one_writes : {T X E : Type 0} (done : T) (value : X) (old new : Memory) (change : Change) → Writes old new (Ok done) change → WritesAll {E = E} (Ok value) old new (λ state. change ∷ [])
+one_writes done value old new change writes = if_some (held old) _ (λ state is. writes.ok ∙ one_written change old.told)
+
+pub one_stops : {T X : Type 0} (fault : StoreFault) (old new : Memory) (change : Change) → Writes {T = T} old new (Err fault) change → new.commits ≡ old.commits → WritesAll {X = X} (Err fault) old new (λ state. change ∷ [])
+one_stops fault old new change writes counted = if_some (held old) _ (λ state is. record {
+  done = 0;
+  few = omega arith;
+  commits = counted;
+  told =
+      ⊎_elim {C = (new.told ≡ option_map (all_written []) old.told) ⊎ (new.told ≡ option_map (all_written (change ∷ [])) old.told)}
+      (λ kept. inl (kept ∙ none_written old.told)) (λ put. inr (put ∙ one_written change old.told)) writes.whole;
+})

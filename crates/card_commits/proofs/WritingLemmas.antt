@@ -1,5 +1,6 @@
 -- Which bytes a store holds once some pieces were committed, by the change that they make.
 use Rattle.std.proofs.Common.{◌≡◌, ◌⊎◌, ℕ, ◌+◌, ◌*◌, ◌==◌, false, List, [], ◌∷◌, length, find, Option, Some, None, option_map, Result, Ok, Err, IsErr, OnOk, OnErr, refl, sym, ◌∙◌, ap, inl, inr, ⊎_elim}
+use Rattle.std.proofs.lemmas.Option.{get_or_from_slice_get}
 use Rattle.std.proofs.lemmas.Result.{on_ok_weaker, on_err_weaker}
 use Rattle.store_form.specs.declared.store.StoreFault.{StoreFault}
 use Rattle.store_form.specs.Pieces.{Piece, applied}
@@ -7,14 +8,15 @@ use Rattle.card_state.specs.declared.entries.Node.{Node}
 use Rattle.card_state.specs.declared.entries.PinSlot.{PinSlot}
 use Rattle.card_state.specs.declared.entries.Row.{Row}
 use Rattle.card_state.specs.declared.entries.Loaded.{Loaded}
-use Rattle.card_state.specs.Changes.{Change, PutBytes, PutRecord, PutNewest, PutLife, AddRow, TakeRow, PutEvents, PutKept}
+use Rattle.card_state.specs.Blank.{unused_node}
+use Rattle.card_state.specs.Changes.{Change, PutBytes, PutRecord, PutNewest, PutLife, TakeFile, AddRow, TakeRow, PutEvents, PutKept}
 use Rattle.card_state.specs.Decoding.{table_of}
 use Rattle.card_state.specs.Memory.{Memory}
 use Rattle.card_state.specs.Persistent.{Pin}
 use Rattle.card_state.specs.Soundness.{slot_of_key}
 use Rattle.card_state.specs.Standing.{Agrees}
 use Rattle.card_state.specs.States.{pins_of, pin_state}
-use Rattle.card_state.specs.Used.{HasPin}
+use Rattle.card_state.specs.Used.{HasNode, HasPin}
 use Rattle.card_state.proofs.KeyOfSlotLemmas.{slot_back}
 use Rattle.file_model.specs.Files.{node_at}
 use Rattle.file_model.specs.Pins.{pin_found, with_pin}
@@ -84,6 +86,10 @@ newest_pieces table number place bytes node moved pieces same is at wrote =
 pub life_pieces : (table : Loaded) (number life : ℕ) (node : Node) (pieces : List Piece) → node ≡ node_at table number → pieces ≡ node_part number (record node { life = life }) 6 7 ∷ [] → pieces ≡ pieces_of table (PutLife number life)
 unfolding pieces_of
 life_pieces table number life node pieces same is = is ∙ ap (λ (n : Node). node_part number (record n { life = life }) 6 7 ∷ []) same
+
+pub gone_pieces : (table : Loaded) (number : ℕ) (node : Node) (pieces : List Piece) → HasNode table number node → pieces ≡ node_part number (record node { used = false }) 0 1 ∷ [] → pieces ≡ pieces_of table (TakeFile number)
+unfolding pieces_of
+gone_pieces table number node pieces has is = is ∙ ap (λ (n : Node). node_part number (record n { used = false }) 0 1 ∷ []) (sym (get_or_from_slice_get table.nodes number node unused_node has.there))
 
 pub taken_pieces : (table : Loaded) (shelf : ℕ) (row : Row) (pieces : List Piece) → row ≡ row_at table shelf → pieces ≡ row_part shelf (record row { used = false }) 0 1 ∷ [] → pieces ≡ pieces_of table (TakeRow shelf)
 unfolding pieces_of

@@ -1,4 +1,5 @@
 mod AnswersTreeLemmas
+mod ChangesByLemmas
 mod CreatingLemmas
 mod DeletingLemmas
 mod FilledLemmas
