@@ -6,7 +6,7 @@ use Rattle.card_state.specs.Changes.{Change}
 use Rattle.card_state.specs.Memory.{Memory, held}
 use Rattle.card_state.specs.Persistent.{Persistent}
 use Rattle.card_commits.specs.Performing.{StopsAmong, WritesAll}
-use Rattle.card_commits.specs.Writing.{written, all_written, Writes}
+use Rattle.card_commits.specs.Writing.{written, all_written, WritesChange}
 
 abbrev pub Told : Type 0
 Told = Option (List ℕ)
@@ -45,8 +45,8 @@ writes_alike (Err fault) old new f g same writes =
     if_some (held old) _ (λ state is. subst (λ (list : List Change). StopsAmong list old new) (sym (same state is)) (if_some_at (held old) _ state writes is))
 
 -- a command that commits nothing
-pub writes_nothing : {X E : Type 0} (value : X) (old new : Memory) → new.told ≡ old.told → WritesAll {E = E} (Ok value) old new (λ state. [])
-writes_nothing value old new same = if_some (held old) _ (λ state is. same ∙ none_written old.told)
+pub writes_nothing : (E : Type 0) {X : Type 0} (value : X) (old new : Memory) → new.told ≡ old.told → WritesAll {E = E} (Ok value) old new (λ state. [])
+writes_nothing E value old new same = if_some (held old) _ (λ state is. same ∙ none_written old.told)
 
 -- one that a fault stopped
 pub stopped_writes : {X E : Type 0} (result : Result X E) (old new : Memory) (changes : Persistent → List Change) → IsErr result → IfSome (held old) (λ state. StopsAmong (changes state) old new) → WritesAll result old new changes
@@ -54,11 +54,11 @@ stopped_writes (Ok value) old new changes is stops = absurd (cc)
 stopped_writes (Err fault) old new changes is stops = stops
 
 -- one commit
-pub one_writes : {T X E : Type 0} (done : T) (value : X) (old new : Memory) (change : Change) → Writes old new (Ok done) change → WritesAll {E = E} (Ok value) old new (λ state. change ∷ [])
-one_writes done value old new change writes = if_some (held old) _ (λ state is. writes.ok ∙ one_written change old.told)
+pub one_writes : (E : Type 0) {T X : Type 0} (done : T) (value : X) (old new : Memory) (change : Change) → WritesChange old new (Ok done) change → WritesAll {E = E} (Ok value) old new (λ state. change ∷ [])
+one_writes E done value old new change writes = if_some (held old) _ (λ state is. writes.ok ∙ one_written change old.told)
 
-pub one_stops : {T X : Type 0} (fault : StoreFault) (old new : Memory) (change : Change) → Writes {T = T} old new (Err fault) change → new.commits ≡ old.commits → WritesAll {X = X} (Err fault) old new (λ state. change ∷ [])
-one_stops fault old new change writes counted = if_some (held old) _ (λ state is. record {
+pub one_stops : (X : Type 0) {T : Type 0} (fault : StoreFault) (old new : Memory) (change : Change) → WritesChange {T = T} old new (Err fault) change → new.commits ≡ old.commits → WritesAll {X = X} (Err fault) old new (λ state. change ∷ [])
+one_stops X fault old new change writes counted = if_some (held old) _ (λ state is. record {
   done = 0;
   few = omega arith;
   commits = counted;

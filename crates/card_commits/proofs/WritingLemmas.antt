@@ -29,7 +29,7 @@ use Rattle.card_commits.specs.declared.pins.PinChange.{PinChange}
 use Rattle.card_commits.specs.declared.pins.PinChange.TheVariants.{Tries, UnblockTries, Value, Enabled, Unblocked}
 use Rattle.card_commits.specs.Entries.{row_at, with_head_moved}
 use Rattle.card_commits.specs.Pins.{changed_pin, span_of, fields_of, put_pin}
-use Rattle.card_commits.specs.Writing.{pieces_of, pin_pieces, span_set, prepared_for, written, Writes, WritesPieces}
+use Rattle.card_commits.specs.Writing.{pieces_of, pin_pieces, span_set, prepared_for, written, WritesChange, WritesPieces}
 
 -- nothing is prepared for the change
 abbrev pub IsUnprepared : Change → Type 0
@@ -47,7 +47,7 @@ written_by mark (Some content) table pieces change agrees is plain =
 
 -- a commit of its pieces is one of the change
 pub writes : {T : Type 0} (old new : Memory) (result : Result T StoreFault) (mark : ℕ) (table : Loaded) (pieces : List Piece) (change : Change) → Agrees mark old.told table → pieces ≡ pieces_of table change → IsUnprepared change
-    → WritesPieces old new result pieces → Writes old new result change
+    → WritesPieces old new result pieces → WritesChange old new result change
 writes old new result mark table pieces change agrees is plain wrote =
     let by = written_by mark old.told table pieces change agrees is plain in
     record {
@@ -56,7 +56,7 @@ writes old new result mark table pieces change agrees is plain wrote =
     }
 
 -- one that a fault stopped, as the call tells that hands the fault on
-pub handed_on : {T U : Type 0} (old new : Memory) (change : Change) (fault : StoreFault) (result : Result T StoreFault) → IsErr result → Writes {T = U} old new (Err fault) change → Writes old new result change
+pub handed_on : {T U : Type 0} (old new : Memory) (change : Change) (fault : StoreFault) (result : Result T StoreFault) → IsErr result → WritesChange {T = U} old new (Err fault) change → WritesChange old new result change
 handed_on old new change fault (Ok value) is given = absurd (cc)
 handed_on old new change fault (Err told) is given = record { ok = tt; whole = given.whole }
 
@@ -130,7 +130,7 @@ same_key (Unblocked value) pin = refl
 
 -- what a change of the PIN in a slot writes
 module _ (of_table : StandingIsOfTable) (slots : SlotsArePins) (mark : ℕ) (told : Option (List ℕ)) (table : Loaded) (agrees : Agrees mark told table) (slot : ℕ) (pin : PinSlot) (has : HasPin table slot pin) (change : PinChange) where
-  new_pin : PinSlot
+  abbrev new_pin : PinSlot
   new_pin = changed_pin change pin
 
   entry : IsPinEntry agrees.state slot pin

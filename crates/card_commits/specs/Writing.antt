@@ -1,5 +1,5 @@
 -- Which bytes of a card's memory a change writes.
-use Rattle.std.specs.Prelude.{◌≡◌, ◌⊎◌, ℕ, ◌+◌, ◌*◌, ◌^◌, ◌<◌, nat_lt, if◌then◌else◌, false, List, [], ◌∷◌, length, take, Option, Some, None, option_map, Result, OnOk, OnErr}
+use Rattle.std.specs.Prelude.{◌≡◌, ◌⊎◌, ℕ, ◌+◌, ◌*◌, ◌^◌, ◌<◌, nat_lt, if◌then◌else◌, true, false, List, [], ◌∷◌, length, Option, Some, None, option_map, Result, OnOk, OnErr}
 use Rattle.store_form.specs.declared.store.StoreFault.{StoreFault}
 use Rattle.store_form.specs.Pieces.{Piece, applied}
 use Rattle.card_state.specs.declared.entries.Node.{Node}
@@ -122,7 +122,7 @@ all_written (change ∷ changes) content = all_written changes (written change c
 -- ---- what a call has written
 
 -- One change, in one commit: after Ok the store holds the bytes after it, and after a fault these or those before it.
-pub record Writes {T : Type 0} (old new : Memory) (result : Result T StoreFault) (change : Change) : Type 0 where
+pub record WritesChange {T : Type 0} (old new : Memory) (result : Result T StoreFault) (change : Change) : Type 0 where
   -- carried out, where it tells its bytes: those after the change
   pub ok : OnOk result (new.told ≡ option_map (written change) old.told)
   -- stopped by a fault: as they were, or after the change
@@ -134,7 +134,7 @@ pub record WritesEvents {T : Type 0} (old new : Memory) (result : Result T Store
   pub events : ℕ
   pub low : events < 2 ^ 12
   pub told : codes_of events ≡ codes
-  pub written_so : Writes old new result (PutEvents shelf events)
+  pub written_so : WritesChange old new result (PutEvents shelf events)
 
 -- The same of pieces, whatever they change.
 pub record WritesPieces {T : Type 0} (old new : Memory) (result : Result T StoreFault) (pieces : List Piece) : Type 0 where

@@ -17,7 +17,7 @@ ghost use Rattle.layout_entries.specs.Adding.{HasRoom};
 ghost use Rattle.layout_laws.specs.ChangeLaws.{kept_pieces};
 ghost use Rattle.card_commits.specs.Commits.{Commits};
 ghost use Rattle.card_commits.specs.Entries.{HasRowOn, row_at, with_row_at};
-ghost use Rattle.card_commits.specs.Writing.{Writes, WritesEvents, WritesPieces};
+ghost use Rattle.card_commits.specs.Writing.{WritesChange, WritesEvents, WritesPieces};
 ghost use Rattle.card_commits.specs.Rows.{MayInstall, with_row_installed, without_row_on, MayRegister, ChangesEvents, rows_alone};
 
 use crate::commits::commit;
@@ -96,7 +96,7 @@ fn replace_events<S: Store>(
         (row_part shelf.0 (record (row_at loaded.old shelf.0) { events = events }) 5 7 ∷ [])
         (with_row_at loaded.old shelf.0 (record (row_at loaded.old shelf.0) { events = events })) change
         → Committed (memory S.Store store.old loaded.old) (memory S.Store store.new loaded.new) result change }
-    ensures writes { Writes (memory S.Store store.old loaded.old) (memory S.Store store.new loaded.new) result
+    ensures writes { WritesChange (memory S.Store store.old loaded.old) (memory S.Store store.new loaded.new) result
         (PutEvents shelf.0 events) }
     ensures table { OnOk result
         (loaded.new ≡ with_row_at loaded.old shelf.0 (record (row_at loaded.old shelf.0) { events = events })) }
@@ -153,7 +153,7 @@ pub fn install_row<S: Store>(
     requires row { MayInstall loaded.old shelf.0 row }
     ensures committed { Committed (memory S.Store store.old loaded.old) (memory S.Store store.new loaded.new) result
         (with_row_installed (registration_of shelf.0 row)) }
-    ensures writes { Writes (memory S.Store store.old loaded.old) (memory S.Store store.new loaded.new) result
+    ensures writes { WritesChange (memory S.Store store.old loaded.old) (memory S.Store store.new loaded.new) result
         (AddRow shelf.0 row) }
     ensures table { OnOk result
         (loaded.new ≡ record (with_row_at loaded.old shelf.0 row) { next = loaded.old.next + 1 }) }
@@ -182,7 +182,7 @@ pub fn remove_row<S: Store>(
     requires row { HasRowOn loaded.old shelf.0 }
     ensures committed { Committed (memory S.Store store.old loaded.old) (memory S.Store store.new loaded.new) result
         (without_row_on shelf.0) }
-    ensures writes { Writes (memory S.Store store.old loaded.old) (memory S.Store store.new loaded.new) result
+    ensures writes { WritesChange (memory S.Store store.old loaded.old) (memory S.Store store.new loaded.new) result
         (TakeRow shelf.0) }
     ensures table { OnOk result (loaded.new ≡ with_row_at loaded.old shelf.0 unused_row) }
     ensures kept { OnErr result (loaded.new ≡ loaded.old) }
@@ -268,7 +268,7 @@ pub fn keep_bytes<S: Store>(
     requires few { length kept.now ≤ 32 }
     ensures committed { Committed (memory S.Store store.old loaded.old) (memory S.Store store.new loaded.new) result
         (with_kept_committed shelf.0 kept.now) }
-    ensures writes { Writes (memory S.Store store.old loaded.old) (memory S.Store store.new loaded.new) result
+    ensures writes { WritesChange (memory S.Store store.old loaded.old) (memory S.Store store.new loaded.new) result
         (PutKept shelf.0 kept.now) }
     ensures table { OnOk result
         (loaded.new ≡ with_row_at loaded.old shelf.0 (record (row_at loaded.old shelf.0) { kept = kept.now })) }

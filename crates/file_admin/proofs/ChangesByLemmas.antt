@@ -22,5 +22,5 @@ module _ (of_table : StandingIsOfTable) (known : AgreeingStands) (before : Memor
       (λ state is. ap (changes_by old) (of_held of_table known before mounted (λ s. meaning s ≡ other s) comes state is)) writes
 
   -- a refused command writes nothing
-  pub writes_refused : (status : StatusWord) → TreeComesTo before.table meaning (λ state. Err status) → {X E : Type 0} (value : X) → WritesAll {E = E} (Ok value) before before (λ state. changes_by old (meaning state))
-  writes_refused status comes {X} {E} value = writes_comes (λ state. Err status) comes {X = X} {E = E} (Ok value) before (writes_nothing {X = X} {E = E} value before before refl)
+  pub writes_refused : (status : StatusWord) → TreeComesTo before.table meaning (λ state. Err status) → WritesAll {E = StoreFault} (Ok status) before before (λ state. changes_by old (meaning state))
+  writes_refused status comes = writes_comes (λ state. Err status) comes (Ok {E = StoreFault} status) before (writes_nothing StoreFault status before before refl)

@@ -14,3 +14,4 @@ mod NodeMadeLemmas
 mod NumberAtLemmas
 mod ResizingLemmas
 mod StandsLemmas
+mod WritesOverLemmas

@@ -23,7 +23,7 @@ use Rattle.card_commits.specs.declared.pins.PinChange.TheVariants.{Tries, Unbloc
 use Rattle.card_commits.specs.Entries.{pin_at, with_pin_at}
 use Rattle.card_commits.specs.Performing.{StopsAmong, WritesAll}
 use Rattle.card_commits.specs.Pins.{changed_pin, fields_of, put_pin}
-use Rattle.card_commits.specs.Writing.{written, all_written, Writes}
+use Rattle.card_commits.specs.Writing.{written, all_written, WritesChange}
 use Rattle.card_commits.proofs.WritesAllLemmas.{Told, none_written, one_written, two_written, writes_alike, stopped_writes}
 use Rattle.pin_rules.specs.declared.trials.Trial.{Trial}
 use Rattle.pin_rules.specs.declared.trials.Trial.TheVariants.{Tell, Present, Unblock}
@@ -82,7 +82,7 @@ module _ (old : Memory) (verified right : Verified) (taken restored : Pin) (left
   first_written mid put = put ∙ ap (λ (change : Change). option_map (written change) old.told) first_change
 
   -- a fault stopped the first
-  pub first_stops : (mid : Memory) (fault : StoreFault) → Writes {T = Unit} old mid (Err fault) (put_pin first pins slot) → mid.commits ≡ old.commits → (result : Result StatusWord StoreFault) → IsErr result → WritesAll result old mid (λ state. puts)
+  pub first_stops : (mid : Memory) (fault : StoreFault) → WritesChange {T = Unit} old mid (Err fault) (put_pin first pins slot) → mid.commits ≡ old.commits → (result : Result StatusWord StoreFault) → IsErr result → WritesAll result old mid (λ state. puts)
   first_stops mid fault writes counted result err =
       stopped_writes result old mid (λ state. puts) err (if_some (held old) _ (λ state is. record {
         done = 0;
@@ -94,7 +94,7 @@ module _ (old : Memory) (verified right : Verified) (taken restored : Pin) (left
             (λ put. inr (first_written mid put ∙ one_written taken_first old.told ∙ ap (λ (list : List Change). option_map (all_written list) old.told) (sym (first_puts is_right)))) writes.whole;
       }))
 
-  module _ (mid : Memory) (done : Writes {T = Unit} old mid (Ok tt) (put_pin first pins slot)) where
+  module _ (mid : Memory) (done : WritesChange {T = Unit} old mid (Ok tt) (put_pin first pins slot)) where
     pub wrong_writes : is_right ≡ false → (status : StatusWord) → WritesAll {E = StoreFault} (Ok status) old mid (λ state. puts)
     wrong_writes is status = if_some (held old) _ (λ state there. first_written mid done.ok ∙ one_written taken_first old.told ∙ ap (λ (list : List Change). option_map (all_written list) old.told) (sym (wrong_puts is)))
 
@@ -109,7 +109,7 @@ module _ (old : Memory) (verified right : Verified) (taken restored : Pin) (left
           ∙ two_written taken_first restored_then old.told
 
       -- a fault stopped the second
-      pub second_stops : (new : Memory) (fault : StoreFault) → Writes {T = Unit} mid new (Err fault) (put_pin second (pins_of mid.table) other) → mid.commits ≡ raised old.commits → new.commits ≡ mid.commits
+      pub second_stops : (new : Memory) (fault : StoreFault) → WritesChange {T = Unit} mid new (Err fault) (put_pin second (pins_of mid.table) other) → mid.commits ≡ raised old.commits → new.commits ≡ mid.commits
           → (result : Result StatusWord StoreFault) → IsErr result → WritesAll result old new (λ state. puts)
       second_stops new fault writes once counted result err =
           writes_alike result old new (λ state. puts) (λ state. taken_first ∷ restored_then ∷ []) (λ state there. right_puts is)
@@ -122,7 +122,7 @@ module _ (old : Memory) (verified right : Verified) (taken restored : Pin) (left
                 (λ kept. inl (kept ∙ first_written mid done.ok ∙ one_written taken_first old.told)) (λ put. inr (both_written new put)) writes.whole;
           })))
 
-      pub right_writes : (new : Memory) → Writes {T = Unit} mid new (Ok tt) (put_pin second (pins_of mid.table) other) → (status : StatusWord) → WritesAll {E = StoreFault} (Ok status) old new (λ state. puts)
+      pub right_writes : (new : Memory) → WritesChange {T = Unit} mid new (Ok tt) (put_pin second (pins_of mid.table) other) → (status : StatusWord) → WritesAll {E = StoreFault} (Ok status) old new (λ state. puts)
       right_writes new writes status =
           if_some (held old) _ (λ state there. both_written new writes.ok ∙ ap (λ (list : List Change). option_map (all_written list) old.told) (sym (right_puts is)))
 

@@ -7,7 +7,7 @@ ghost use Rattle.file_model.specs.Files.{descriptors_of};
 ghost use Rattle.file_model.specs.Selections.{IsSelection};
 ghost use Rattle.file_model.specs.Records.{has_increase_parameters, has_increase_length, short_to_increase, may_be_increased, file_to_increase, sum_to_write, increase_in, increased};
 ghost use Rattle.file_model.specs.Outcomes.{settled_file};
-ghost use Rattle.card_commits.specs.Writing.{Writes};
+ghost use Rattle.card_commits.specs.Writing.{WritesChange};
 ghost use Rattle.card_commits.specs.Performing.{Performs, StaysStill, WritesAll};
 ghost use Rattle.file_tree.specs.Tables.{IsCardTable};
 ghost use Rattle.binary_commands.specs.Commands.{IsInPlace};
@@ -115,7 +115,7 @@ fn write_first<S: Store>(
     requires width { length bytes.now ≡ file.now.width }
     ensures committed { Committed (memory S.Store store.old loaded.old) (memory S.Store store.new loaded.new) result
         (with_newest_record file.now.number bytes.now) }
-    ensures writes { Writes (memory S.Store store.old loaded.old) (memory S.Store store.new loaded.new) result
+    ensures writes { WritesChange (memory S.Store store.old loaded.old) (memory S.Store store.new loaded.new) result
         (PutNewest file.now.number bytes.now) }
     ensures kept { OnErr result (loaded.new ≡ loaded.old) }
     ensures files { KeepsDescriptors loaded.old loaded.new }

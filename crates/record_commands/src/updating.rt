@@ -5,7 +5,7 @@ ghost use Rattle.file_model.specs.Files.{descriptors_of};
 ghost use Rattle.file_model.specs.Selections.{IsSelection};
 ghost use Rattle.file_model.specs.Records.{file_to_update, number_to_update, record_update_in, record_updated, short_in_p2};
 ghost use Rattle.file_model.specs.Outcomes.{settled_file};
-ghost use Rattle.card_commits.specs.Writing.{Writes};
+ghost use Rattle.card_commits.specs.Writing.{WritesChange};
 ghost use Rattle.card_commits.specs.Performing.{Performs, StaysStill, WritesAll};
 ghost use Rattle.file_tree.specs.Tables.{IsCardTable};
 ghost use Rattle.binary_commands.specs.Commands.{IsInPlace};
@@ -63,7 +63,7 @@ fn write_one<S: Store>(
     requires width { length bytes.now ≡ file.now.width }
     ensures committed { Committed (memory S.Store store.old loaded.old) (memory S.Store store.new loaded.new) result
         (record_written file.now number bytes.now) }
-    ensures writes { Writes (memory S.Store store.old loaded.old) (memory S.Store store.new loaded.new) result
+    ensures writes { WritesChange (memory S.Store store.old loaded.old) (memory S.Store store.new loaded.new) result
         (put_record file.now number bytes.now) }
     ensures kept { OnErr result (loaded.new ≡ loaded.old) }
     ensures files { KeepsDescriptors loaded.old loaded.new }

@@ -38,5 +38,4 @@ returns-in_err-commit-clause-writes g c =
 
 pub returns-clause-writes : goal.returns-clause-writes
 unfolding prepared_for
-returns-clause-writes g c =
-    writes _ _ _ _ c.args.loaded.now _ (PutLife c.args.number c.args.life) c.requires.mounted.agrees (life_pieces c.args.loaded.now c.args.number c.args.life c.node_of.result _ c.node_of.ensures.value c.node_piece.ensures) (λ content. refl) c.in_ok-commit.ensures.pieces
+returns-clause-writes g c = record { ok = (writes _ _ _ _ c.args.loaded.now _ (PutLife c.args.number c.args.life) c.requires.mounted.agrees (life_pieces c.args.loaded.now c.args.number c.args.life c.node_of.result _ c.node_of.ensures.value c.node_piece.ensures) (λ content. refl) c.in_ok-commit.ensures.pieces).ok; whole = tt }

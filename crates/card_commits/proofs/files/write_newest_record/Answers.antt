@@ -77,5 +77,4 @@ returns-in_err-commit-clause-writes g c =
 
 pub returns-clause-writes : goal.returns-clause-writes
 unfolding prepared_for
-returns-clause-writes g c =
-    writes _ _ _ _ c.args.loaded.now _ (PutNewest c.args.number c.args.bytes.now) c.requires.mounted.agrees (newest_pieces c.args.loaded.now c.args.number _ c.args.bytes.now c.node_of.result c.with_head_moved-node.result _ c.node_of.ensures.value c.with_head_moved-node.ensures (rw (c.from.ensures, c.from-2.ensures) refl) c.newest_pieces.ensures) (λ content. refl) c.in_ok-commit.ensures.pieces
+returns-clause-writes g c = record { ok = (writes _ _ _ _ c.args.loaded.now _ (PutNewest c.args.number c.args.bytes.now) c.requires.mounted.agrees (newest_pieces c.args.loaded.now c.args.number _ c.args.bytes.now c.node_of.result c.with_head_moved-node.result _ c.node_of.ensures.value c.with_head_moved-node.ensures (rw (c.from.ensures, c.from-2.ensures) refl) c.newest_pieces.ensures) (λ content. refl) c.in_ok-commit.ensures.pieces).ok; whole = tt }

@@ -31,4 +31,4 @@ returns-in_err-commit-clause-writes g c = rw (sym c.pin_of.ensures.value)
 pub returns-clause-writes : goal.returns-clause-writes
 unfolding prepared_for
 returns-clause-writes g c = rw (sym c.pin_of.ensures.value)
-    (    writes _ _ _ _ c.args.loaded.now _ (put_pin c.args.change (pins_of c.args.loaded.now) c.pin_of.result) c.requires.mounted.agrees (pin_pieces_put c.cards_are_known.ensures.table c.cards_are_known.ensures.pins _ _ c.args.loaded.now c.requires.mounted.agrees c.args.slot c.pin_of.result c.pin_of.ensures.there c.args.change c.applied-pin.result c.span-from.result.0 c.span-from.result.1 _ c.applied-pin.ensures c.span-from.ensures c.pin_piece.ensures) (λ content. refl) c.in_ok-commit.ensures.pieces)
+    (record { ok = (    writes _ _ _ _ c.args.loaded.now _ (put_pin c.args.change (pins_of c.args.loaded.now) c.pin_of.result) c.requires.mounted.agrees (pin_pieces_put c.cards_are_known.ensures.table c.cards_are_known.ensures.pins _ _ c.args.loaded.now c.requires.mounted.agrees c.args.slot c.pin_of.result c.pin_of.ensures.there c.args.change c.applied-pin.result c.span-from.result.0 c.span-from.result.1 _ c.applied-pin.ensures c.span-from.ensures c.pin_piece.ensures) (λ content. refl) c.in_ok-commit.ensures.pieces).ok; whole = tt })

@@ -38,4 +38,4 @@ pub returns-in-Err-clause-writes : goal.returns-in-Err-clause-writes
 returns-in-Err-clause-writes g c =
     let same_channel : c.channel-channel.result ≡ channel_of c.args.command.now.class = c.channel-channel.ensures in
     writes_refused c.cards_are_known.ensures.table c.stores_stand.ensures.known _ c.requires.mounted c.args.channels.now (λ state. deleted state c.args.seen.now c.args.channels.now (channel_of c.args.command.now.class) c.args.command.now) c.in-Err.status
-    (λ mark content state stands. sym (λ i. deleted state c.args.seen.now c.args.channels.now (same_channel i) c.args.command.now) ∙ c.in-Err.ensures.refused state (listed c.cards_are_known.ensures.card c.cards_are_known.ensures.table mark content c.args.loaded.now state stands c.files_are_found.ensures.told)) c.in-Err.status
+    (λ mark content state stands. sym (λ i. deleted state c.args.seen.now c.args.channels.now (same_channel i) c.args.command.now) ∙ c.in-Err.ensures.refused state (listed c.cards_are_known.ensures.card c.cards_are_known.ensures.table mark content c.args.loaded.now state stands c.files_are_found.ensures.told))
