@@ -23,4 +23,4 @@ module _ (of_table : StandingIsOfTable) (known : AgreeingStands) (before : Memor
 
   -- a refused command writes nothing
   pub writes_refused : (status : StatusWord) → TreeComesTo before.table meaning (λ state. Err status) → WritesAll {E = StoreFault} (Ok status) before before (λ state. changes_by old (meaning state))
-  writes_refused status comes = writes_comes (λ state. Err status) comes (Ok {E = StoreFault} status) before (writes_nothing StoreFault status before before refl)
+  writes_refused status comes = writes_comes (λ state. Err status) comes (let done : Result StatusWord StoreFault = Ok status in done) before (writes_nothing StoreFault status before before refl)

@@ -3,6 +3,7 @@ mod ChangesByLemmas
 mod CreatingLemmas
 mod DeletingLemmas
 mod FilledLemmas
+mod FitsLemmas
 mod FreeNumberLemmas
 mod GrownFilesStandLemmas
 mod IsBesideNodesLemmas

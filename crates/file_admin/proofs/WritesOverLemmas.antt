@@ -163,4 +163,4 @@ module _ (of_table : StandingIsOfTable) (known : AgreeingStands) (before : Memor
 
   -- a refused command writes nothing
   pub tree_refused : (status : StatusWord) → TreeComesTo before.table meaning (λ state. Err status) → WritesTree {E = StoreFault} (Ok status) before before (λ state. changes_by old (meaning state))
-  tree_refused status comes = tree_comes (λ state. Err status) comes (Ok {E = StoreFault} status) before (if_some (held before) _ (λ state is. none_written before.told))
+  tree_refused status comes = tree_comes (λ state. Err status) comes (let done : Result StatusWord StoreFault = Ok status in done) before (if_some (held before) _ (λ state is. none_written before.told))

@@ -38,7 +38,7 @@ returns-in_err-write_bytes-clause-passes g c =
     }
 
 pub returns-in_err-is_allowed-clause-puts : goal.returns-in_err-is_allowed-clause-puts
-returns-in_err-is_allowed-clause-puts g c = puts_nothing c.from_residual-in_err-is_allowed.result _ _ _ c.from_residual-in_err-is_allowed.ensures.0 c.in_err-is_allowed.ensures.reads.stable
+returns-in_err-is_allowed-clause-puts g c = puts_nothing c.from_residual.result _ _ _ c.from_residual.ensures.0 c.in_err-is_allowed.ensures.reads.stable
 
 pub returns-in_err-write_bytes-clause-puts : goal.returns-in_err-write_bytes-clause-puts
 returns-in_err-write_bytes-clause-puts g c =

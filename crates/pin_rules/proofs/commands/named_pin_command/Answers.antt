@@ -1,7 +1,9 @@
 -- The trial read from the table comes to what the command settles; where that passes no state nothing is committed, and no fault stops it.
-use Rattle.std.proofs.Common.{◌≡◌, Ok, length, refl, sym, ◌∙◌, ap, subst}
+use Rattle.std.proofs.Common.{◌≡◌, Ok, Result, length, refl, sym, ◌∙◌, ap, subst}
 use Rattle.std.proofs.lemmas.Bool.{false≢true}
 use Rattle.list_laws.proofs.IfSomeLemmas.{on_err}
+use Rattle.uicc_types.specs.declared.answers.StatusWord.{StatusWord}
+use Rattle.store_form.specs.declared.store.StoreFault.{StoreFault}
 use Rattle.uicc_types.specs.Counts.{raised_by}
 use Rattle.card_state.specs.States.{pins_of}
 use Rattle.card_state.specs.Memory.{memory}
@@ -56,4 +58,4 @@ returns-in_err-out-clause-writes g c =
 
 pub returns-clause-writes : goal.returns-clause-writes
 returns-clause-writes g c =
-    command_writes c.args.pin (pins_of c.args.loaded.now) c.args.verified.now c.args.command.now c.trial_of-tried.result (c.trial_of-tried.ensures.means c.args.verified.now) c.trial_of-tried.ensures.sets (Ok c.in_ok-out.field-0) (memory g.S.Store c.args.store.now c.args.loaded.now) (memory g.S.Store c.carry_out.new.store c.carry_out.new.loaded) (λ state is. (c.tables_tell_states.ensures (g.S.Store.store_mark c.args.store.now) (g.S.Store.stable c.args.store.now) c.args.loaded.now state c.requires.mounted.agrees is).pins) c.in_ok-out.ensures.writes
+    command_writes c.args.pin (pins_of c.args.loaded.now) c.args.verified.now c.args.command.now c.trial_of-tried.result (c.trial_of-tried.ensures.means c.args.verified.now) c.trial_of-tried.ensures.sets (let done : Result StatusWord StoreFault = Ok c.in_ok-out.field-0 in done) (memory g.S.Store c.args.store.now c.args.loaded.now) (memory g.S.Store c.carry_out.new.store c.carry_out.new.loaded) (λ state is. (c.tables_tell_states.ensures (g.S.Store.store_mark c.args.store.now) (g.S.Store.stable c.args.store.now) c.args.loaded.now state c.requires.mounted.agrees is).pins) c.in_ok-out.ensures.writes

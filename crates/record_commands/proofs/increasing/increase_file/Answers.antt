@@ -50,7 +50,7 @@ summed : (g : Over) (c : In-Ok g) (state : Persistent) → held_by g.S.Store c.a
 summed g c state is = sym (if_some_at (held_by g.S.Store c.is_allowed.new.store) _ state c.in_ok-sum.ensures.value (reads_held _ _ _ c.is_allowed.ensures.reads ∙ is)) ∙ c.in-Ok.is
 
 pub returns-in_err-is_allowed-clause-puts : goal.returns-in_err-is_allowed-clause-puts
-returns-in_err-is_allowed-clause-puts g c = puts_nothing c.from_residual-in_err-is_allowed.result _ _ _ c.from_residual-in_err-is_allowed.ensures.0 c.in_err-is_allowed.ensures.reads.stable
+returns-in_err-is_allowed-clause-puts g c = puts_nothing c.from_residual.result _ _ _ c.from_residual.ensures.0 c.in_err-is_allowed.ensures.reads.stable
 
 pub returns-in_err-sum-clause-puts : goal.returns-in_err-sum-clause-puts
 returns-in_err-sum-clause-puts g c = puts_nothing c.from_residual-in_err-sum.result _ _ _ c.from_residual-in_err-sum.ensures.0 (c.in_err-sum.ensures.reads.stable ∙ c.is_allowed.ensures.reads.stable)

@@ -48,7 +48,7 @@ returns-clause-ends g c = record {
 }
 
 pub returns-in_err-is_allowed-clause-puts : goal.returns-in_err-is_allowed-clause-puts
-returns-in_err-is_allowed-clause-puts g c = puts_nothing c.from_residual-in_err-is_allowed.result _ _ _ c.from_residual-in_err-is_allowed.ensures.0 c.in_err-is_allowed.ensures.reads.stable
+returns-in_err-is_allowed-clause-puts g c = puts_nothing c.from_residual.result _ _ _ c.from_residual.ensures.0 c.in_err-is_allowed.ensures.reads.stable
 
 pub returns-in_err-write_life-clause-puts : goal.returns-in_err-write_life-clause-puts
 returns-in_err-write_life-clause-puts g c =

@@ -48,7 +48,7 @@ named : (g : Over) (c : In-Ok g) → number_to_update c.args.file.now c.args.sel
 named g c = sym c.number_to_update.ensures.value ∙ c.in-Ok.is
 
 pub returns-in_err-is_allowed-clause-puts : goal.returns-in_err-is_allowed-clause-puts
-returns-in_err-is_allowed-clause-puts g c = puts_nothing c.from_residual-in_err-is_allowed.result _ _ _ c.from_residual-in_err-is_allowed.ensures.0 c.in_err-is_allowed.ensures.reads.stable
+returns-in_err-is_allowed-clause-puts g c = puts_nothing c.from_residual.result _ _ _ c.from_residual.ensures.0 c.in_err-is_allowed.ensures.reads.stable
 
 pub returns-in_err-write_one-in-Ok-clause-puts : goal.returns-in_err-write_one-in-Ok-clause-puts
 returns-in_err-write_one-in-Ok-clause-puts g c =
