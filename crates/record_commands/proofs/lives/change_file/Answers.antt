@@ -12,9 +12,8 @@ use Rattle.binary_commands.proofs.GivesLemmas.{left_by}
 use Rattle.record_commands.proofs.KeepsSelectionsLemmas.{told_keeps}
 use Rattle.record_commands.proofs.SettledFileLemmas.{one_passes, one_changes, reads_held, life_passed}
 use Rattle.record_commands.proofs.lives.change_file.Goals as goal
-use Rattle.std.proofs.Common.{List, cond, ap, option_map, eq-eqb}
-use Rattle.card_state.specs.Changes.{Change, PutLife}
-use Rattle.card_commits.specs.Writing.{all_written}
+use Rattle.std.proofs.Common.{eq-eqb}
+use Rattle.card_state.specs.Changes.{PutLife}
 use Rattle.card_commits.proofs.WritesAllLemmas.{none_written, put_after, put_or_not}
 use Rattle.binary_commands.proofs.WritesLemmas.{puts_stopped, puts_nothing}
 
@@ -60,3 +59,8 @@ pub returns-clause-puts : goal.returns-clause-puts
 returns-clause-puts g c =
     if_some (held_by g.S.Store c.args.store.now) _ (λ state is. rw (ne_eqb c.args.file.now.life c.args.change.life c.if-file-change.false)
     (put_after (PutLife c.args.file.now.number c.args.change.life) _ _ _ c.is_allowed.ensures.reads.stable c.in_ok-write_life.ensures.writes.ok))
+
+pub returns-then-file-change-clause-puts : goal.returns-then-file-change-clause-puts
+returns-then-file-change-clause-puts g c =
+    if_some (held_by g.S.Store c.args.store.now) _ (λ state is. rw (eq-eqb c.args.file.now.life c.args.change.life c.if-file-change.true)
+    (c.is_allowed.ensures.reads.stable ∙ none_written (g.S.Store.stable c.args.store.now)))
