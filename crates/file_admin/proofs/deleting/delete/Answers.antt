@@ -9,6 +9,9 @@ use Rattle.card_state.specs.Changes.{TakeFile}
 use Rattle.card_commits.specs.Writing.{prepared_for}
 use Rattle.card_commits.proofs.WritesAllLemmas.{one_writes, one_stops}
 use Rattle.card_commits.proofs.WritingLemmas.{writes, gone_pieces}
+use Rattle.uicc_types.specs.declared.answers.StatusWord.{StatusWord}
+use Rattle.uicc_types.specs.declared.answers.TheConstants.StatusWord.{DONE}
+use Rattle.store_form.specs.declared.store.StoreFault.{StoreFault}
 
 pub returns-in-Ok-clause-done : goal.returns-in-Ok-clause-done
 returns-in-Ok-clause-done g c =
@@ -29,12 +32,12 @@ returns-in-Err-clause-still g c = not_still c.cards_are_known.ensures.table c.st
 pub returns-in-Ok-clause-writes : goal.returns-in-Ok-clause-writes
 unfolding prepared_for
 returns-in-Ok-clause-writes g c =
-    one_writes _ c.in-Ok.field-0 _ _ _ (TakeFile c.args.file.now.number)
+    one_writes StoreFault c.in-Ok.field-0 DONE _ _ (TakeFile c.args.file.now.number)
     (writes _ _ _ _ c.args.loaded.now _ (TakeFile c.args.file.now.number) c.requires.mounted.agrees (gone_pieces c.args.loaded.now c.args.file.now.number c.entry_of.result _ c.entry_of.ensures.has refl) (λ content. refl) c.in-Ok.ensures.pieces)
 
 pub returns-in-Err-clause-writes : goal.returns-in-Err-clause-writes
 unfolding prepared_for
 returns-in-Err-clause-writes g c =
-    one_stops _ c.in-Err.fault _ _ (TakeFile c.args.file.now.number)
+    one_stops StatusWord c.in-Err.fault _ _ (TakeFile c.args.file.now.number)
     (writes _ _ _ _ c.args.loaded.now _ (TakeFile c.args.file.now.number) c.requires.mounted.agrees (gone_pieces c.args.loaded.now c.args.file.now.number c.entry_of.result _ c.entry_of.ensures.has refl) (λ content. refl) c.in-Err.ensures.pieces)
     (c.in-Err.ensures.committed _ (commits_alone _ c.requires.mounted c.args.file.now.number (record c.entry_of.result { used = false }) 0 1 _ (written c.args.loaded.now c.args.channels.now c.args.file.now c.cards_are_known.ensures.card c.cards_are_known.ensures.table c.files_are_found.ensures.told c.written_files_stand.ensures.deleted c.entry_of.result c.entry_of.ensures.has c.requires.named c.requires.unused))).commits

@@ -21,6 +21,7 @@ use Rattle.uicc_types.specs.declared.answers.TheConstants.StatusWord.{DONE, NO_R
 use Rattle.store_form.specs.declared.store.StoreFault.{StoreFault}
 use Rattle.file_admin.proofs.FitsLemmas.{fit, grown_told, grown_range, fit_writes, fit_stops}
 use Rattle.file_admin.proofs.WritesOverLemmas.{tree_makes, tree_refused}
+use Rattle.card_state.specs.Memory.{memory}
 
 pub grow-requires-clause-file : goal.grow-requires-clause-file
 grow-requires-clause-file g c =
@@ -78,7 +79,7 @@ returns-in-Ok-clause-writes g c =
     let other : c.args.file.now.size ≢ c.args.size = λ same. omega (arith, same, c.requires.more) in
     let there : (mark : ℕ) (content : List ℕ) (state : Persistent) → Stands mark content c.args.loaded.now state → room_at state c.args.size ≡ Some c.in-Some.place =
     λ mark content state stands. ap (λ (s : Persistent). room_at s c.args.size) (same_state c.cards_are_known.ensures.card c.cards_are_known.ensures.table mark content c.args.loaded.now state stands) ∙ sym (c.room.ensures.value content) ∙ c.in-Some.is in
-    λ channels. tree_makes c.cards_are_known.ensures.table c.stores_stand.ensures.known _ c.requires.mounted channels (λ state. resized_if_room state channels c.args.size c.args.file.now) (λ state. fit c.args.file.now.number c.args.size state ∷ []) (λ mark content state stands. makes_one state channels c.args.size c.args.file.now (fits_there state channels c.args.size c.args.file.now c.in-Some.place c.requires.more (there mark content state stands)) other) (let done : Result StatusWord StoreFault = Ok DONE in done) _
+    λ channels. tree_makes c.cards_are_known.ensures.table c.stores_stand.ensures.known _ c.requires.mounted channels (λ state. resized_if_room state channels c.args.size c.args.file.now) (λ state. fit c.args.file.now.number c.args.size state ∷ []) (λ mark content state stands. makes_one state channels c.args.size c.args.file.now (fits_there state channels c.args.size c.args.file.now c.in-Some.place c.requires.more (there mark content state stands)) other) (let done : Result StatusWord StoreFault = Ok DONE in done) (memory g.S.Store c.grow.new.store c.grow.new.loaded)
     (fit_writes c.cards_are_known.ensures.table c.stores_stand.ensures.known _ c.requires.mounted (fit c.args.file.now.number c.args.size) (moved c.entry_of-node.result c.in-Some.place c.args.size) c.in-Some.place c.args.size (node_part c.args.file.now.number (record c.entry_of-node.result { place = c.in-Some.place; size = c.args.size }) 10 14) (λ mark content state stands. grown_told c.cards_are_known.ensures.files c.args.loaded.now c.args.file.now.number c.entry_of-node.result c.entry_of-node.ensures.has kind c.args.size mark content state stands grows c.in-Some.place (there mark content state stands) _ _ c.requires.mounted.agrees) c.in-Ok.field-0 DONE _ c.in-Ok.ensures.writes)
 
 pub returns-in-Err-clause-writes : goal.returns-in-Err-clause-writes

@@ -17,6 +17,7 @@ use Rattle.store_form.specs.declared.store.StoreFault.{StoreFault}
 use Rattle.file_admin.specs.Written.{as_it_was}
 use Rattle.file_admin.proofs.FitsLemmas.{fit, shrunk_told, shrunk_range, over_nothing, fit_writes, fit_stops}
 use Rattle.file_admin.proofs.WritesOverLemmas.{tree_makes}
+use Rattle.card_state.specs.Memory.{memory}
 
 pub returns-in-Ok-clause-done : goal.returns-in-Ok-clause-done
 returns-in-Ok-clause-done g c =
@@ -51,7 +52,7 @@ returns-in-Ok-clause-writes g c =
     let sized : c.entry_of-old.result.size ≡ c.args.file.now.size = same_size c.args.file.now c.entry_of-old.result c.entry_of-old.ensures.told c.requires.kind in
     let fewer : c.args.size < c.entry_of-old.result.size = omega (arith, sized, c.requires.fewer) in
     let other : c.args.file.now.size ≢ c.args.size = λ same. omega (arith, same, c.requires.fewer) in
-    λ channels. tree_makes c.cards_are_known.ensures.table c.stores_stand.ensures.known _ c.requires.mounted channels (λ state. resized_if_room state channels c.args.size c.args.file.now) (λ state. fit c.args.file.now.number c.args.size state ∷ []) (λ mark content state stands. makes_one state channels c.args.size c.args.file.now (fits_fewer state channels c.args.size c.args.file.now c.requires.fewer) other) (let done : Result StatusWord StoreFault = Ok DONE in done) _
+    λ channels. tree_makes c.cards_are_known.ensures.table c.stores_stand.ensures.known _ c.requires.mounted channels (λ state. resized_if_room state channels c.args.size c.args.file.now) (λ state. fit c.args.file.now.number c.args.size state ∷ []) (λ mark content state stands. makes_one state channels c.args.size c.args.file.now (fits_fewer state channels c.args.size c.args.file.now c.requires.fewer) other) (let done : Result StatusWord StoreFault = Ok DONE in done) (memory g.S.Store c.commit_node.new.store c.commit_node.new.loaded)
     (fit_writes c.cards_are_known.ensures.table c.stores_stand.ensures.known _ c.requires.mounted (fit c.args.file.now.number c.args.size) as_it_was 0 0 (node_part c.args.file.now.number (record c.entry_of-old.result { size = c.args.size }) 12 14) (λ mark content state stands. shrunk_told c.cards_are_known.ensures.files c.args.loaded.now c.args.file.now.number c.entry_of-old.result c.entry_of-old.ensures.has kind c.args.size mark content state stands fewer _ _ c.requires.mounted.agrees) c.in-Ok.field-0 DONE _ (over_nothing _ _ (node_part c.args.file.now.number (record c.entry_of-old.result { size = c.args.size }) 12 14) _ c.in-Ok.ensures.pieces))
 
 pub returns-in-Err-clause-writes : goal.returns-in-Err-clause-writes
