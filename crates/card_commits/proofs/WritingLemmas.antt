@@ -1,5 +1,5 @@
 -- Which bytes a store holds once some pieces were committed, by the change that they make.
-use Rattle.std.proofs.Common.{◌≡◌, ◌⊎◌, ℕ, ◌+◌, ◌*◌, ◌==◌, false, List, [], ◌∷◌, length, find, Option, Some, None, option_map, Result, Ok, Err, IsErr, OnOk, OnErr, refl, sym, ◌∙◌, ap, inl, inr, ⊎_elim}
+use Rattle.std.proofs.Common.{◌≡◌, ◌⊎◌, ℕ, ◌+◌, ◌*◌, ◌==◌, false, List, [], ◌∷◌, length, find, Option, Some, None, option_map, Result, Ok, Err, IsErr, refl, sym, ◌∙◌, ap, inl, inr, ⊎_elim}
 use Rattle.std.proofs.lemmas.Option.{get_or_from_slice_get}
 use Rattle.std.proofs.lemmas.Result.{on_ok_weaker, on_err_weaker}
 use Rattle.store_form.specs.declared.store.StoreFault.{StoreFault}

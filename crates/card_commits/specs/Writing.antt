@@ -10,7 +10,7 @@ use Rattle.card_state.specs.Changes.{PinFields, OfTries, OfUnblockTries, OfValue
 use Rattle.card_state.specs.Decoding.{table_of}
 use Rattle.card_state.specs.Kinds.{codes_of}
 use Rattle.card_state.specs.Memory.{Memory}
-use Rattle.card_state.specs.Persistent.{Contents, Files, Bytes, Records, Rule, File, Pin}
+use Rattle.card_state.specs.Persistent.{Contents, Records, Rule, File, Pin}
 use Rattle.card_state.specs.Soundness.{slot_of_key}
 use Rattle.file_model.specs.Files.{node_at}
 use Rattle.file_model.specs.Pins.{pin_found}

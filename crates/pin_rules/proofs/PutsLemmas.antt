@@ -1,6 +1,5 @@
 -- What the two commits of a value that is presented have written.
-use Rattle.std.proofs.Common.{◌≡◌, ◌⊎◌, ℕ, ◌+◌, ◌≤◌, Bool, true, false, List, [], ◌∷◌, length, take, Option, Some, option_map, Result, Ok, Err, IfOk, IsErr, refl, sym, ◌∙◌, ap, inl, inr, ⊎_elim, arith}
-use Rattle.std.proofs.lemmas.Bool.{false≢true}
+use Rattle.std.proofs.Common.{◌≡◌, ◌⊎◌, ℕ, Bool, true, false, List, [], ◌∷◌, take, Some, option_map, Result, Ok, Err, IfOk, IsErr, refl, sym, ◌∙◌, ap, inl, inr, ⊎_elim, arith}
 use Rattle.list_laws.proofs.IfSomeLemmas.{if_some}
 use Rattle.uicc_types.specs.Counts.{raised}
 use Rattle.uicc_types.specs.declared.answers.StatusWord.{StatusWord}
@@ -21,7 +20,7 @@ use Rattle.file_model.specs.Pins.{with_pin, presented, pins_put}
 use Rattle.card_commits.specs.declared.pins.PinChange.{PinChange}
 use Rattle.card_commits.specs.declared.pins.PinChange.TheVariants.{Tries, UnblockTries}
 use Rattle.card_commits.specs.Entries.{pin_at, with_pin_at}
-use Rattle.card_commits.specs.Performing.{StopsAmong, WritesAll}
+use Rattle.card_commits.specs.Performing.{WritesAll}
 use Rattle.card_commits.specs.Pins.{changed_pin, fields_of, put_pin}
 use Rattle.card_commits.specs.Writing.{written, all_written, WritesChange}
 use Rattle.card_commits.proofs.WritesAllLemmas.{Told, none_written, one_written, two_written, writes_alike, stopped_writes}
