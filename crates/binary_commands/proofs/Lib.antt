@@ -6,3 +6,4 @@ mod RulingRecordLemmas
 mod SelectingLemmas
 mod UpdateInLemmas
 mod WorkedOnLemmas
+pub mod WritesLemmas

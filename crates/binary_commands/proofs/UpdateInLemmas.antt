@@ -4,6 +4,7 @@ use Rattle.uicc_types.specs.declared.answers.StatusWord.{StatusWord}
 use Rattle.uicc_types.specs.declared.answers.TheConstants.StatusWord.{SECURITY_NOT_SATISFIED, WRONG_OFFSET}
 use Rattle.apdu_form.specs.Model.{Apdu}
 use Rattle.card_state.specs.Persistent.{Persistent}
+use Rattle.card_state.specs.Changes.{PutBytes}
 use Rattle.card_state.specs.Changing.{with_bytes}
 use Rattle.access_rules.specs.declared.rules.Op.TheVariants.{UpdateBinary}
 use Rattle.access_rules.specs.declared.rules.Verified.{Verified}
@@ -13,6 +14,7 @@ use Rattle.file_model.specs.Chains.{refused_if}
 use Rattle.file_model.specs.Access.{may}
 use Rattle.file_model.specs.Outcomes.{FileOutcome, settled_file}
 use Rattle.file_model.specs.Binaries.{offset_of, updating, update_in}
+use Rattle.binary_commands.proofs.WritesLemmas.{Makes, past_refusal}
 
 module _ (state : Persistent) (seen : Verified) (selection : Selection) (apdu : Apdu) (file : Descriptor) where
   abbrev update_tested : Bool → Bool → Result FileOutcome StatusWord
@@ -45,3 +47,11 @@ module _ (state : Persistent) (seen : Verified) (selection : Selection) (apdu : 
       of_both : (after ≡ Some state) ⊎ (after ≡ Some written) → IsSomeAnd after (Contains (state ∷ written ∷ []))
       of_both (inl same) = subst (λ (o : Option Persistent). IsSomeAnd o (Contains (state ∷ written ∷ []))) (sym same) (0, omega arith, refl)
       of_both (inr new) = subst (λ (o : Option Persistent). IsSomeAnd o (Contains (state ∷ written ∷ []))) (sym new) (1, omega arith, refl)
+
+-- its change is that of the bytes
+pub update_makes : (seen : Verified) (selection : Selection) (apdu : Apdu) (file : Descriptor) → Makes (λ state. update_in state seen selection apdu file) (λ state. PutBytes file.number (offset_of apdu) apdu.body ∷ [])
+unfolding update_in updating
+update_makes seen selection apdu file = record {
+  made = λ state. past_refusal _ (not (may state UpdateBinary seen file)) SECURITY_NOT_SATISFIED _ (past_refusal _ (nat_lt file.size (offset_of apdu + length apdu.body)) WRONG_OFFSET (Ok (updating state selection apdu file)) refl);
+  few = λ state. refl;
+}

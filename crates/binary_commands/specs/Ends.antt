@@ -1,9 +1,10 @@
 -- How the commands end, and what was tried before that.
-use Rattle.std.specs.Prelude.{◌≡◌, ◌≢◌, [], IfOk, IfSome, OnOk, OnErr, Result}
+use Rattle.std.specs.Prelude.{◌≡◌, ◌≢◌, ◌⊎◌, List, [], IfOk, IfSome, OnOk, OnErr, option_map, Result, Ok, Err}
 use Rattle.uicc_types.specs.declared.answers.Answer.{Answer}
 use Rattle.uicc_types.specs.declared.answers.StatusWord.{StatusWord}
 use Rattle.uicc_types.specs.declared.answers.TheConstants.StatusWord.{MEMORY_PROBLEM}
 use Rattle.store_form.specs.declared.store.StoreFault.{StoreFault}
+use Rattle.card_state.specs.Changes.{Change}
 use Rattle.card_state.specs.Persistent.{Persistent}
 use Rattle.card_state.specs.Memory.{Memory, Keeps, held}
 use Rattle.file_model.specs.declared.selections.Selection.{Selection}
@@ -11,6 +12,7 @@ use Rattle.file_model.specs.Files.{descriptors_of}
 use Rattle.file_model.specs.Selections.{IsSelection}
 use Rattle.file_model.specs.Outcomes.{FileOutcome, settled_file}
 use Rattle.card_commits.specs.Performing.{IsStopped, StaysStill}
+use Rattle.card_commits.specs.Writing.{all_written}
 use Rattle.binary_commands.specs.Targets.{Gives, EndsLawfully}
 
 -- ---- a command
@@ -39,6 +41,13 @@ GivesTried result old new answer meaning =
 pub record Passes (result : Tried) (old new : Memory) (selection : Selection) (meaning : Persistent → Result FileOutcome StatusWord) : Type 0 where
   pub stopped : OnErr result (IsStopped old new (λ state. (settled_file selection (meaning state)).passed))
   pub still : StaysStill old new (λ state. (settled_file selection (meaning state)).passed)
+
+-- What it has written before its meaning is looked at: nothing where it is refused; these changes where it is carried out; and where a fault
+-- stops it, nothing or these.
+abbrev pub Puts : Tried → Memory → Memory → (Persistent → List Change) → Type 0
+Puts (Ok (Ok selection)) old new changes = IfSome (held old) (λ state. new.told ≡ option_map (all_written (changes state)) old.told)
+Puts (Ok (Err status)) old new changes = new.told ≡ old.told
+Puts (Err fault) old new changes = IfSome (held old) (λ state. (new.told ≡ old.told) ⊎ (new.told ≡ option_map (all_written (changes state)) old.told))
 
 -- It ends lawfully where no fault stops it; after one the data of the answer and the table are as they were.
 pub record EndsTry (result : Tried) (old new : Memory) (answer after : Answer) : Type 0 where

@@ -1,16 +1,17 @@
 //! READ BINARY and UPDATE BINARY.
-ghost use Rattle.std.specs.Prelude.{◌≡◌, ◌≢◌, ◌+◌, ◌≤◌, [], ◌==◌, ◌||◌, true, if◌then◌else◌, length, take, drop, Err, IfOk, IfSome, IsOk, Ok, OnOk, OnErr};
+ghost use Rattle.std.specs.Prelude.{◌≡◌, ◌≢◌, ◌+◌, ◌≤◌, [], ◌∷◌, ◌==◌, ◌||◌, true, if◌then◌else◌, length, take, drop, Err, IfOk, IfSome, IsOk, Ok, OnOk, OnErr};
 ghost use Rattle.uicc_types.specs.Counts.{raised};
+ghost use Rattle.card_state.specs.Changes.{PutBytes};
 ghost use Rattle.card_state.specs.Memory.{IsMounted, Reads, held_by, memory};
 ghost use Rattle.file_model.specs.declared.descriptors.Descriptor.{Descriptor};
 ghost use Rattle.file_model.specs.Files.{descriptors_of};
 ghost use Rattle.file_model.specs.Holdings.{bytes_in};
-ghost use Rattle.file_model.specs.Binaries.{binary_to_read, binary_to_update, read_from, binary_read, update_in, binary_updated};
+ghost use Rattle.file_model.specs.Binaries.{offset_of, binary_to_read, binary_to_update, read_from, binary_read, update_in, binary_updated};
 ghost use Rattle.apdu_form.specs.Fields.{has_data};
 ghost use Rattle.file_model.specs.Outcomes.{settled_file};
-ghost use Rattle.card_commits.specs.Performing.{Performs, StaysStill};
+ghost use Rattle.card_commits.specs.Performing.{Performs, StaysStill, WritesAll};
 ghost use Rattle.binary_commands.specs.Commands.{IsSomeCommand, IsInPlace, IsBinaryFile, IsBinaryTarget};
-ghost use Rattle.binary_commands.specs.Ends.{EndsTry, EndsWell, GivesTried, Passes};
+ghost use Rattle.binary_commands.specs.Ends.{EndsTry, EndsWell, GivesTried, Passes, Puts};
 ghost use Rattle.binary_commands.specs.Reads.{access_reads, ReadsFile, ReadsOnce};
 ghost use Rattle.binary_commands.specs.Targets.{IsRefused};
 
@@ -158,6 +159,8 @@ fn update_file<S: Store>(
         out.new (λ state. update_in state seen.now selection.now command.now file.now) }
     ensures passes { Passes result (memory S.Store store.old loaded.now) (memory S.Store store.new loaded.now)
         selection.now (λ state. update_in state seen.now selection.now command.now file.now) }
+    ensures puts { Puts result (memory S.Store store.old loaded.now) (memory S.Store store.new loaded.now)
+        (λ state. PutBytes file.now.number (offset_of command.now) command.now.body ∷ []) }
     ensures ends { EndsTry result (memory S.Store store.old loaded.now) (memory S.Store store.new loaded.now)
         out.old out.new }
 {
@@ -189,6 +192,8 @@ fn try_update<S: Store>(
         out.new (λ state. binary_updated state seen.now selection.now command.now) }
     ensures passes { Passes result (memory S.Store store.old loaded.now) (memory S.Store store.new loaded.now)
         selection.now (λ state. binary_updated state seen.now selection.now command.now) }
+    ensures writes { WritesAll result (memory S.Store store.old loaded.now) (memory S.Store store.new loaded.now)
+        (λ state. (settled_file selection.now (binary_updated state seen.now selection.now command.now)).changes) }
     ensures refused { (status : StatusWord)
         → binary_to_update (descriptors_of loaded.now) selection.now command.now ≡ Err status
         → (result ≡ Ok (Err status)) × (store.new ≡ store.old) }
@@ -253,6 +258,8 @@ pub fn update_binary<S: Store>(
         (λ state. settled_file selection.old (binary_updated state seen.now selection.old command.now)) }
     ensures still { StaysStill (memory S.Store store.old loaded.old) (memory S.Store store.new loaded.new)
         (λ state. (settled_file selection.old (binary_updated state seen.now selection.old command.now)).passed) }
+    ensures writes { WritesAll result (memory S.Store store.old loaded.old) (memory S.Store store.new loaded.new)
+        (λ state. (settled_file selection.old (binary_updated state seen.now selection.old command.now)).changes) }
     ensures ends { EndsWell result (memory S.Store store.old loaded.old) (memory S.Store store.new loaded.new)
         out.new selection.new }
     ensures table { loaded.new ≡ loaded.old }

@@ -50,6 +50,13 @@ torn_on place done count total change keeps old mid new whole within is torn =
         Torn_again place total content (change content) now (Torn_wider place done place total content (change content) (omega arith) (omega arith) (keeps content whole))
         (Torn_wider (place + done) count place total (change content) now (omega arith) (omega arith) torn)
 
+-- a part of a range that was torn
+pub torn_within : (place done total : ℕ) → done ≤ total → (old new : Told) → Becomes (Torn place done) old new → Becomes (Torn place total) old new
+torn_within place done total within None None torn = tt
+torn_within place done total within None (Some now) torn = torn
+torn_within place done total within (Some content) None torn = torn
+torn_within place done total within (Some content) (Some now) torn = Torn_wider place done place total content now (omega arith) (omega arith) torn
+
 pub same_told : (old : Told) (change : List ℕ → List ℕ) → ((content : List ℕ) → change content ≡ content) → old ≡ option_map change old
 same_told None change same = refl
 same_told (Some content) change same = ap (λ (l : List ℕ). let some : Told = Some l in some) (sym (same content))

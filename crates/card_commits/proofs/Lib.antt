@@ -2,7 +2,7 @@ mod CommitsOverLemmas
 mod CommittedLemmas
 mod DescriptorsOfLemmas
 mod EntriesLemmas
-mod FilledLemmas
+pub mod FilledLemmas
 mod HasRecordLemmas
 mod HeldByLemmas
 pub mod KeepsLemmas
@@ -10,4 +10,6 @@ mod PinsLemmas
 mod PreparesLemmas
 mod RowsLemmas
 mod TablesTellStatesLemmas
+pub mod WritesAllLemmas
+pub mod WritingLemmas
 mod worked

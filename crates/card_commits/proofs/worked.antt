@@ -1,2 +1,3 @@
 -- Definitions, worked out on examples.
 mod Prepared
+mod Writing

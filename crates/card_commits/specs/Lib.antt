@@ -7,3 +7,4 @@ pub mod Prepared
 pub mod PreparedCommits
 pub mod Ranges
 pub mod Rows
+pub mod Writing

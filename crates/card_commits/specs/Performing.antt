@@ -1,12 +1,14 @@
 -- What a command has done to a card, and what stands where the memory failed inside it.
-use Rattle.std.specs.Prelude.{◌≡◌, ◌≤◌, ℕ, List, [], ◌∷◌, length, map, Contains, Option, Some, IfSome, IsSomeAnd, Result, Ok, Err}
+use Rattle.std.specs.Prelude.{◌≡◌, ◌⊎◌, ◌+◌, ◌≤◌, ℕ, List, [], ◌∷◌, length, take, map, Contains, Option, Some, option_map, IfSome, IsSomeAnd, Result, Ok, Err}
 use Rattle.uicc_types.specs.Counts.{raised_by}
 use Rattle.uicc_types.specs.declared.answers.Answer.{Answer}
+use Rattle.card_state.specs.Changes.{Change}
 use Rattle.card_state.specs.Persistent.{Pin, Persistent}
 use Rattle.card_state.specs.Memory.{Memory, held}
 use Rattle.access_rules.specs.declared.rules.Verified.{Verified}
 use Rattle.file_model.specs.declared.selections.Selection.{Selection}
 use Rattle.file_model.specs.Outcomes.{FileOutcome, PinOutcome, last_of}
+use Rattle.card_commits.specs.Writing.{all_written}
 
 -- One of the states of a command stands: the one before it, or one that it passed.
 abbrev pub PassesOne : Option Persistent → Option Persistent → (Persistent → List Persistent) → Type 0
@@ -15,6 +17,20 @@ PassesOne before after passed = IfSome before (λ state. IsSomeAnd after (Contai
 -- no more than so many commits were done, and each of those that were is counted
 abbrev pub CommitsAtMost : ℕ → ℕ → ℕ → Type 0
 CommitsAtMost times before now = (done : ℕ) × ((done ≤ times) × (now ≡ raised_by done before))
+
+-- ---- the bytes
+
+-- A fault stopped some changes, in order: so many of them are counted, and the bytes are those after these, or after one more.
+pub record StopsAmong (changes : List Change) (old new : Memory) : Type 0 where
+  pub done : ℕ
+  pub few : done ≤ length changes
+  pub commits : new.commits ≡ raised_by done old.commits
+  pub told : (new.told ≡ option_map (all_written (take done changes)) old.told) ⊎ (new.told ≡ option_map (all_written (take (done + 1) changes)) old.told)
+
+-- What a command has written over a store that tells its bytes: what its changes write, in order, and nothing else.
+abbrev pub WritesAll : {X E : Type 0} → Result X E → Memory → Memory → (Persistent → List Change) → Type 0
+WritesAll (Ok done) old new changes = IfSome (held old) (λ state. new.told ≡ option_map (all_written (changes state)) old.told)
+WritesAll (Err fault) old new changes = IfSome (held old) (λ state. StopsAmong (changes state) old new)
 
 -- ---- commands on files
 

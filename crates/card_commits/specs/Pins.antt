@@ -1,10 +1,12 @@
 -- What a commit sets of a PIN.
-use Rattle.std.specs.Prelude.{ℕ, ◌≤◌, true}
+use Rattle.std.specs.Prelude.{ℕ, ◌≤◌, true, List}
 use Rattle.card_state.specs.declared.entries.PinSlot.{PinSlot}
 use Rattle.card_state.specs.declared.sizes.TheConstants.{TRIES, UNBLOCK_TRIES}
-use Rattle.card_state.specs.Persistent.{Persistent}
+use Rattle.card_state.specs.Changes.{PinFields, OfTries, OfUnblockTries, OfValue, OfEnabling, OfUnblocking, Change, PutPin}
+use Rattle.card_state.specs.Persistent.{Pin, Persistent}
 use Rattle.card_state.specs.States.{pin_state}
 use Rattle.card_state.specs.Changing.{with_pin_for}
+use Rattle.file_model.specs.Pins.{with_pin}
 use Rattle.card_commits.specs.declared.pins.PinChange.{PinChange}
 use Rattle.card_commits.specs.declared.pins.PinChange.TheVariants.{Tries, UnblockTries, Value, Enabled, Unblocked}
 
@@ -31,6 +33,18 @@ HasFewTries (UnblockTries tries) = tries ≤ UNBLOCK_TRIES
 HasFewTries (Value value) = Unit {0}
 HasFewTries (Enabled enabled) = Unit {0}
 HasFewTries (Unblocked value) = Unit {0}
+
+-- which fields it sets
+abbrev pub fields_of : PinChange → PinFields
+fields_of (Tries tries) = OfTries
+fields_of (UnblockTries tries) = OfUnblockTries
+fields_of (Value value) = OfValue
+fields_of (Enabled enabled) = OfEnabling
+fields_of (Unblocked value) = OfUnblocking
+
+-- the change of a PIN among these, as the card's
+abbrev pub put_pin : PinChange → List Pin → PinSlot → Change
+put_pin change pins pin = PutPin (fields_of change) pin.key (with_pin pins (pin_state (changed_pin change pin)))
 
 -- with this PIN changed so
 abbrev pub with_pin_changed : PinChange → PinSlot → Persistent → Persistent

@@ -6,6 +6,7 @@ ghost use Rattle.card_state.specs.declared.entries.Loaded.{Loaded};
 ghost use Rattle.card_state.specs.Persistent.{Persistent};
 ghost use Rattle.card_state.specs.Memory.{Committed, IsMounted, memory};
 ghost use Rattle.card_commits.specs.Commits.{Commits};
+ghost use Rattle.card_commits.specs.Writing.{WritesPieces};
 
 use card_state::Loaded;
 use layout_laws::stores_stand;
@@ -20,6 +21,7 @@ pub fn commit<S: Store>(store: &mut S, loaded: &Loaded, writes: &Writes) -> Resu
     ensures committed { (table : Loaded) (change : Persistent → Persistent)
         → Commits (S.store_mark store.old) (S.stable store.old) loaded.now writes.now table change
         → Committed (memory S.Store store.old loaded.now) (memory S.Store store.new table) result change }
+    ensures pieces { WritesPieces (memory S.Store store.old loaded.now) (memory S.Store store.new loaded.now) result writes.now }
 {
     // This call is a law, and does nothing.
     stores_stand();

@@ -1,5 +1,5 @@
 //! One entry of a file, committed over prepared bytes.
-ghost use Rattle.std.specs.Prelude.{◌≡◌, ◌≤◌, ◌<◌, OnOk, OnErr};
+ghost use Rattle.std.specs.Prelude.{◌≡◌, ◌≤◌, ◌<◌, [], ◌∷◌, OnOk, OnErr};
 ghost use Rattle.card_state.specs.Memory.{IsMounted, Committed, memory};
 ghost use Rattle.card_state.specs.Persistent.{Persistent};
 ghost use Rattle.layout_entries.specs.Fields.{shown_node};
@@ -8,6 +8,7 @@ ghost use Rattle.layout_entries.specs.Spelling.{node_part};
 ghost use Rattle.layout_laws.specs.Changes.{with_node};
 ghost use Rattle.card_commits.specs.PreparedCommits.{CommitsOver};
 ghost use Rattle.card_commits.specs.Ranges.{IsStoreReady, CommitsChange};
+ghost use Rattle.card_commits.specs.Writing.{WritesPieces};
 
 use card_state::sizes::{NODE_COUNT, NODE_WIDTH};
 use card_state::{Loaded, Node};
@@ -61,6 +62,8 @@ pub fn commit_node<S: Store>(
     ensures committed { (change : Persistent → Persistent)
         → CommitsOver (memory S.Store store.old loaded.old) number node from to change
         → Committed (memory S.Store store.old loaded.old) (memory S.Store store.new loaded.new) result change }
+    ensures pieces { WritesPieces (memory S.Store store.old loaded.old) (memory S.Store store.new loaded.new) result
+        (node_part number node from to ∷ []) }
     ensures table { OnOk result (loaded.new ≡ with_node loaded.old number node) }
     ensures kept { OnErr result (loaded.new ≡ loaded.old) }
 {

@@ -1,11 +1,13 @@
 //! The commits of what files hold, and of their life cycle status.
 ghost use Rattle.std.specs.Prelude.{◌≡◌, ◌⊎◌, ◌≤◌, ◌<◌, [], ◌∷◌, length, OnOk, OnErr};
 ghost use Rattle.card_state.specs.Kinds.{activated, deactivated};
+ghost use Rattle.card_state.specs.Changes.{PutBytes, PutRecord, PutNewest, PutLife};
 ghost use Rattle.card_state.specs.Changing.{with_bytes, with_record, with_newest_record, with_life};
 ghost use Rattle.card_state.specs.Memory.{Committed, IsMounted, memory};
 ghost use Rattle.file_model.specs.Files.{descriptors_of, node_at};
 ghost use Rattle.layout_entries.specs.Spelling.{node_part};
 ghost use Rattle.card_commits.specs.Entries.{HasBytes, HasLinearRecord, HasRing, HasEf, with_node_at, with_head_moved, with_life_told};
+ghost use Rattle.card_commits.specs.Writing.{WritesChange};
 
 use crate::commits::commit;
 use crate::entries::{node_of, with_head_moved};
@@ -32,6 +34,8 @@ pub fn write_bytes<S: Store>(
     requires few { length bytes.now ≤ 640 }
     ensures committed { Committed (memory S.Store store.old loaded.now) (memory S.Store store.new loaded.now) result
         (with_bytes number offset bytes.now) }
+    ensures writes { WritesChange (memory S.Store store.old loaded.now) (memory S.Store store.new loaded.now) result
+        (PutBytes number offset bytes.now) }
 {
     // These calls are laws, and do nothing.
     files_are_found();
@@ -55,6 +59,8 @@ pub fn write_record<S: Store>(
     requires file { HasLinearRecord loaded.now number index (length bytes.now) }
     ensures committed { Committed (memory S.Store store.old loaded.now) (memory S.Store store.new loaded.now) result
         (with_record number index bytes.now) }
+    ensures writes { WritesChange (memory S.Store store.old loaded.now) (memory S.Store store.new loaded.now) result
+        (PutRecord number index bytes.now) }
 {
     // These calls are laws, and do nothing.
     files_are_found();
@@ -94,6 +100,8 @@ pub fn write_newest_record<S: Store>(
     requires file { HasRing loaded.old number (length bytes.now) }
     ensures committed { Committed (memory S.Store store.old loaded.old) (memory S.Store store.new loaded.new) result
         (with_newest_record number bytes.now) }
+    ensures writes { WritesChange (memory S.Store store.old loaded.old) (memory S.Store store.new loaded.new) result
+        (PutNewest number bytes.now) }
     ensures table { OnOk result
         (loaded.new ≡ with_node_at loaded.old number (with_head_moved (node_at loaded.old number))) }
     ensures kept { OnErr result (loaded.new ≡ loaded.old) }
@@ -126,6 +134,8 @@ pub fn write_life<S: Store>(
     requires life { (life ≡ deactivated) ⊎ (life ≡ activated) }
     ensures committed { Committed (memory S.Store store.old loaded.old) (memory S.Store store.new loaded.new) result
         (with_life number life) }
+    ensures writes { WritesChange (memory S.Store store.old loaded.old) (memory S.Store store.new loaded.new) result
+        (PutLife number life) }
     ensures table { OnOk result
         (loaded.new ≡ with_node_at loaded.old number (record (node_at loaded.old number) { life = life })) }
     ensures kept { OnErr result (loaded.new ≡ loaded.old) }

@@ -5,7 +5,8 @@ ghost use Rattle.card_state.specs.Used.{HasPin};
 ghost use Rattle.card_state.specs.Memory.{Committed, IsMounted, memory};
 ghost use Rattle.file_model.specs.Pins.{with_pin};
 ghost use Rattle.card_commits.specs.Entries.{HasPinIn, pin_at, with_pin_at};
-ghost use Rattle.card_commits.specs.Pins.{changed_pin, HasFewTries, span_of, with_pin_changed};
+ghost use Rattle.card_commits.specs.Pins.{changed_pin, HasFewTries, span_of, with_pin_changed, put_pin};
+ghost use Rattle.card_commits.specs.Writing.{WritesChange};
 
 use crate::commits::commit;
 use crate::pieces::pin_piece;
@@ -98,6 +99,8 @@ pub fn change_pin<S: Store>(
     requires tries { HasFewTries change }
     ensures committed { Committed (memory S.Store store.old loaded.old) (memory S.Store store.new loaded.new) result
         (with_pin_changed change (pin_at loaded.old slot)) }
+    ensures writes { WritesChange (memory S.Store store.old loaded.old) (memory S.Store store.new loaded.new) result
+        (put_pin change (pins_of loaded.old) (pin_at loaded.old slot)) }
     ensures table { OnOk result
         (loaded.new ≡ with_pin_at loaded.old slot (changed_pin change (pin_at loaded.old slot))) }
     ensures pins { OnOk result

@@ -71,8 +71,9 @@ pub fn prepare_moved<S: Store>(
     requires file { IsTransparentFile loaded.now number node.now }
     requires more { node.now.size < size }
     requires free { IsBesideNodes loaded.now place size }
-    ensures { Prepares (memory S.Store store.old loaded.now) (memory S.Store store.new loaded.now) result
+    ensures prepares { Prepares (memory S.Store store.old loaded.now) (memory S.Store store.new loaded.now) result
         (moved node.now place size) }
+    ensures torn { OnErr result (Becomes (Torn place size) (S.stable store.old) (S.stable store.new)) }
 {
     // This call is a law, and does nothing.
     cards_are_known();

@@ -1,11 +1,14 @@
 //! The commits of the rows of applets.
-ghost use Rattle.std.specs.Prelude.{◌≡◌, ◌⊎◌, ◌+◌, ◌≤◌, ◌<◌, [], ◌∷◌, ◌++◌, length, All, OnOk, OnErr, IsErrOf, option_map, is_some};
+ghost use Rattle.std.specs.Prelude.{◌≡◌, ◌⊎◌, ◌+◌, ◌≤◌, ◌<◌, [], ◌∷◌, ◌++◌, length, All, OnOk, OnErr, IsErrOf, option_map, is_some, filter, not, ◌==◌};
 ghost use Rattle.uicc_types.specs.Counts.{Caused};
 ghost use Rattle.store_form.specs.Pieces.{IsUsablePiece};
 ghost use Rattle.card_state.specs.Places.{memory_size};
 ghost use Rattle.card_state.specs.Persistent.{Persistent};
 ghost use Rattle.card_state.specs.Used.{HasRow};
+ghost use Rattle.card_state.specs.Kinds.{codes_of};
+ghost use Rattle.card_state.specs.Sections.{sorted_codes};
 ghost use Rattle.card_state.specs.States.{registration_of, rows_of};
+ghost use Rattle.card_state.specs.Changes.{AddRow, TakeRow, PutEvents, PutKept};
 ghost use Rattle.card_state.specs.Changing.{with_code_committed, without_code_committed, with_kept_committed};
 ghost use Rattle.card_state.specs.Blank.{unused_row};
 ghost use Rattle.card_state.specs.Memory.{Committed, IsMounted, held_by, memory};
@@ -14,6 +17,7 @@ ghost use Rattle.layout_entries.specs.Adding.{HasRoom};
 ghost use Rattle.layout_laws.specs.ChangeLaws.{kept_pieces};
 ghost use Rattle.card_commits.specs.Commits.{Commits};
 ghost use Rattle.card_commits.specs.Entries.{HasRowOn, row_at, with_row_at};
+ghost use Rattle.card_commits.specs.Writing.{WritesChange, WritesEvents, WritesPieces};
 ghost use Rattle.card_commits.specs.Rows.{MayInstall, with_row_installed, without_row_on, MayRegister, ChangesEvents, rows_alone};
 
 use crate::commits::commit;
@@ -68,6 +72,7 @@ fn replace_row<S: Store>(
         → Commits (S.store_mark store.old) (S.stable store.old) loaded.old writes.now
         (record (with_row_at loaded.old shelf.0 row) { next = next }) change
         → Committed (memory S.Store store.old loaded.old) (memory S.Store store.new loaded.new) result change }
+    ensures pieces { WritesPieces (memory S.Store store.old loaded.old) (memory S.Store store.new loaded.new) result writes.now }
     ensures table { OnOk result (loaded.new ≡ record (with_row_at loaded.old shelf.0 row) { next = next }) }
     ensures kept { OnErr result (loaded.new ≡ loaded.old) }
 {
@@ -91,6 +96,8 @@ fn replace_events<S: Store>(
         (row_part shelf.0 (record (row_at loaded.old shelf.0) { events = events }) 5 7 ∷ [])
         (with_row_at loaded.old shelf.0 (record (row_at loaded.old shelf.0) { events = events })) change
         → Committed (memory S.Store store.old loaded.old) (memory S.Store store.new loaded.new) result change }
+    ensures writes { WritesChange (memory S.Store store.old loaded.old) (memory S.Store store.new loaded.new) result
+        (PutEvents shelf.0 events) }
     ensures table { OnOk result
         (loaded.new ≡ with_row_at loaded.old shelf.0 (record (row_at loaded.old shelf.0) { events = events })) }
     ensures kept { OnErr result (loaded.new ≡ loaded.old) }
@@ -146,6 +153,8 @@ pub fn install_row<S: Store>(
     requires row { MayInstall loaded.old shelf.0 row }
     ensures committed { Committed (memory S.Store store.old loaded.old) (memory S.Store store.new loaded.new) result
         (with_row_installed (registration_of shelf.0 row)) }
+    ensures writes { WritesChange (memory S.Store store.old loaded.old) (memory S.Store store.new loaded.new) result
+        (AddRow shelf.0 row) }
     ensures table { OnOk result
         (loaded.new ≡ record (with_row_at loaded.old shelf.0 row) { next = loaded.old.next + 1 }) }
     ensures kept { OnErr result (loaded.new ≡ loaded.old) }
@@ -173,6 +182,8 @@ pub fn remove_row<S: Store>(
     requires row { HasRowOn loaded.old shelf.0 }
     ensures committed { Committed (memory S.Store store.old loaded.old) (memory S.Store store.new loaded.new) result
         (without_row_on shelf.0) }
+    ensures writes { WritesChange (memory S.Store store.old loaded.old) (memory S.Store store.new loaded.new) result
+        (TakeRow shelf.0) }
     ensures table { OnOk result (loaded.new ≡ with_row_at loaded.old shelf.0 unused_row) }
     ensures kept { OnErr result (loaded.new ≡ loaded.old) }
     ensures rows { OnOk result (rows_of loaded.new ≡ (without_row_on shelf.0 (rows_alone loaded.old)).rows) }
@@ -204,6 +215,8 @@ pub fn register<S: Store>(
     requires event { MayRegister loaded.old shelf.0 code }
     ensures committed { Committed (memory S.Store store.old loaded.old) (memory S.Store store.new loaded.new) result
         (with_code_committed shelf.0 code) }
+    ensures writes { WritesEvents (memory S.Store store.old loaded.old) (memory S.Store store.new loaded.new) result shelf.0
+        (sorted_codes (code ∷ codes_of (row_at loaded.old shelf.0).events)) }
     ensures table { OnOk result (ChangesEvents loaded.old shelf.0 loaded.new) }
     ensures kept { OnErr result (loaded.new ≡ loaded.old) }
     ensures rows { OnOk result (rows_of loaded.new ≡ (with_code_committed shelf.0 code (rows_alone loaded.old)).rows) }
@@ -228,6 +241,8 @@ pub fn deregister<S: Store>(
     requires row { HasRowOn loaded.old shelf.0 }
     ensures committed { Committed (memory S.Store store.old loaded.old) (memory S.Store store.new loaded.new) result
         (without_code_committed shelf.0 code) }
+    ensures writes { WritesEvents (memory S.Store store.old loaded.old) (memory S.Store store.new loaded.new) result shelf.0
+        (filter (λ other. not (other == code)) (codes_of (row_at loaded.old shelf.0).events)) }
     ensures table { OnOk result (ChangesEvents loaded.old shelf.0 loaded.new) }
     ensures kept { OnErr result (loaded.new ≡ loaded.old) }
     ensures rows { OnOk result (rows_of loaded.new
@@ -253,6 +268,8 @@ pub fn keep_bytes<S: Store>(
     requires few { length kept.now ≤ 32 }
     ensures committed { Committed (memory S.Store store.old loaded.old) (memory S.Store store.new loaded.new) result
         (with_kept_committed shelf.0 kept.now) }
+    ensures writes { WritesChange (memory S.Store store.old loaded.old) (memory S.Store store.new loaded.new) result
+        (PutKept shelf.0 kept.now) }
     ensures table { OnOk result
         (loaded.new ≡ with_row_at loaded.old shelf.0 (record (row_at loaded.old shelf.0) { kept = kept.now })) }
     ensures kept { OnErr result (loaded.new ≡ loaded.old) }

@@ -1,5 +1,6 @@
 pub mod AppletKinds
 pub mod Blank
+pub mod Changes
 pub mod Changing
 pub mod Checks
 pub mod Decoding

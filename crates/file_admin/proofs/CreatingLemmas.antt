@@ -5,6 +5,7 @@ use Rattle.uicc_types.specs.declared.answers.StatusWord.{StatusWord}
 use Rattle.uicc_types.specs.declared.answers.TheConstants.StatusWord.{DONE, NO_ROOM}
 use Rattle.card_state.specs.declared.entries.Node.{Node}
 use Rattle.card_state.specs.declared.entries.Loaded.{Loaded}
+use Rattle.card_state.specs.Changes.{MakeFile}
 use Rattle.card_state.specs.Changing.{with_file_at}
 use Rattle.card_state.specs.Persistent.{File, Persistent}
 use Rattle.card_state.specs.Ranges.{HasNodeRanges}
@@ -32,7 +33,7 @@ use Rattle.card_commits.specs.Prepared.{filled}
 use Rattle.file_admin.specs.declared.new_entries.NewEntry.{NewEntry}
 use Rattle.file_admin.specs.NewEntries.{node_made, byte_count, blank_bytes}
 use Rattle.file_admin.specs.WrittenFiles.{MadeBytesAreFree, MadeFilesStand}
-use Rattle.file_admin.specs.Outcomes.{passed_by, AnswersTree, TreeComesTo}
+use Rattle.file_admin.specs.Outcomes.{passed_by, changes_by, AnswersTree, TreeComesTo}
 use Rattle.file_admin.specs.Written.{IsWrittenOver}
 use Rattle.file_admin.proofs.AnswersTreeLemmas.{done}
 use Rattle.file_admin.proofs.IsBesideNodesLemmas.{beside_nodes}
@@ -77,13 +78,18 @@ module _ (card : StandingIsCard) (of_table : StandingIsOfTable) (tells : TablesT
       abbrev pub change : Persistent → Persistent
       change state = with_file_at state it.number (Some file)
 
-      named : file.number ≡ it.number
+      pub named : file.number ≡ it.number
       named = number_made it.number df it.node.place asked
 
       pub passes_one : (mark : ℕ) (content : List ℕ) (state : Persistent) → Stands mark content table state → passed_by channels (meaning state) ≡ change state ∷ []
       unfolding creating
       passes_one mark content state stands =
           ap (passed_by channels) (meaning_found mark content state stands) ∙ ap (λ (n : ℕ). with_file_at state n (Some file) ∷ []) named
+
+      -- its change is that of the new file
+      pub makes_one : (mark : ℕ) (content : List ℕ) (state : Persistent) → Stands mark content table state → changes_by channels (meaning state) ≡ MakeFile file ∷ []
+      unfolding creating
+      makes_one mark content state stands = ap (changes_by channels) (meaning_found mark content state stands)
 
       module _ (node_is : it.node ≡ node_made df it.node.place asked) where
         sized : it.node.size ≡ byte_count asked

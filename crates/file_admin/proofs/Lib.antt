@@ -1,7 +1,9 @@
 mod AnswersTreeLemmas
+mod ChangesByLemmas
 mod CreatingLemmas
 mod DeletingLemmas
 mod FilledLemmas
+mod FitsLemmas
 mod FreeNumberLemmas
 mod GrownFilesStandLemmas
 mod IsBesideNodesLemmas
@@ -13,3 +15,4 @@ mod NodeMadeLemmas
 mod NumberAtLemmas
 mod ResizingLemmas
 mod StandsLemmas
+mod WritesOverLemmas

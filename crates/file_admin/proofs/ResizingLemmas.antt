@@ -31,9 +31,10 @@ use Rattle.layout_laws.specs.Changes.{with_node}
 use Rattle.layout_laws.specs.Known.{StandingIsCard, StandingIsOfTable, NodesAreFiles, IsBesideNodes}
 use Rattle.card_commits.specs.Prepared.{IsTransparentFile, moved}
 use Rattle.file_admin.specs.WrittenFiles.{RoomsAreFree, GrownFilesStand, ShrunkFilesStand}
-use Rattle.file_admin.specs.Outcomes.{passed_by, IsTreeAnswer}
+use Rattle.file_admin.specs.Outcomes.{passed_by, changes_by, IsTreeAnswer}
 use Rattle.file_admin.specs.Written.{IsWrittenOver, as_it_was, with_file_resized}
 use Rattle.file_admin.proofs.AnswersTreeLemmas.{done}
+use Rattle.file_admin.proofs.FitsLemmas.{fit}
 use Rattle.file_admin.proofs.IsBesideNodesLemmas.{beside_nodes}
 use Rattle.file_admin.proofs.StandsLemmas.{same_state, sound_state}
 
@@ -98,6 +99,20 @@ module _ (state : Persistent) (channels : List (Option Selection)) (size : ℕ) 
 
   pub passes_one : has_no_room state size file ≡ false → file.size ≢ size → passed_by channels meaning ≡ with_file_resized file.number size state ∷ []
   passes_one fits other = ap (passed_by channels) (with_room fits) ∙ changed other
+
+  -- the change that it makes
+  made : file.size ≢ size → (resizing state channels size file).changes ≡ fit file.number size state ∷ []
+  unfolding resizing
+  made other = cond-false (file.size == size) [] (fit file.number size state ∷ []) (ne_eqb file.size size other)
+
+  pub makes_one : has_no_room state size file ≡ false → file.size ≢ size → changes_by channels meaning ≡ fit file.number size state ∷ []
+  makes_one fits other = ap (changes_by channels) (with_room fits) ∙ made other
+
+  pub makes_none : size ≡ file.size → changes_by channels meaning ≡ []
+  unfolding resizing
+  makes_none same =
+      let fits : has_no_room state size file ≡ false = ap (λ (b : Bool). b && is_none (room_at state size)) (le-ltb file.size size (omega (arith, same))) in
+      ap (changes_by channels) (with_room fits) ∙ cond-true (file.size == size) [] (fit file.number size state ∷ []) (eq-eqb file.size size (sym same))
 
   pub answers_so : (mark : ℕ) (content' : List ℕ) (table' : Loaded) → has_no_room state size file ≡ false → file.size ≢ size → Stands mark content' table' (with_file_resized file.number size state)
       → IsTreeAnswer mark state meaning channels DONE channels table'

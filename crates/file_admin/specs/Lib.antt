@@ -1,4 +1,5 @@
 pub mod NewEntries
 pub mod Outcomes
+pub mod Writes
 pub mod Written
 pub mod WrittenFiles

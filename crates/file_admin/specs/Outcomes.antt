@@ -7,6 +7,7 @@ use Rattle.uicc_types.specs.declared.answers.TheConstants.StatusWord.{DONE, MEMO
 use Rattle.apdu_form.specs.Model.{Apdu}
 use Rattle.store_form.specs.declared.store.StoreFault.{StoreFault}
 use Rattle.card_state.specs.declared.entries.Loaded.{Loaded}
+use Rattle.card_state.specs.Changes.{Change}
 use Rattle.card_state.specs.Persistent.{Persistent}
 use Rattle.card_state.specs.Memory.{Memory, held, Keeps}
 use Rattle.card_state.specs.Standing.{Stands}
@@ -31,6 +32,10 @@ tree_status_of (Err status) = status
 -- the states that it passes; a refused command passes none
 abbrev pub passed_by : List (Option Selection) → Result TreeOutcome StatusWord → List Persistent
 passed_by channels meaning = (settled_tree channels meaning).passed
+
+-- the changes that it makes; a refused command makes none
+abbrev pub changes_by : List (Option Selection) → Result TreeOutcome StatusWord → List Change
+changes_by channels meaning = (settled_tree channels meaning).changes
 
 -- a command can name it by the identifier in its data, as the child of some DF
 pub record IsNamedIn (files : List Descriptor) (file : Descriptor) : Type 0 where

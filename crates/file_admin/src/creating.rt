@@ -9,7 +9,8 @@ ghost use Rattle.file_model.specs.Creating.{is_there, created_if_room};
 ghost use Rattle.file_model.specs.LawfulTrees.{AreSelected};
 ghost use Rattle.file_model.specs.TreeOutcomes.{df_on};
 ghost use Rattle.file_model.specs.Templates.{may_be_made};
-ghost use Rattle.file_admin.specs.Outcomes.{PerformsTree, AnswersTree, CommitsTree, IfNothingPasses, EndsTree, ChangesNodes, IsDone, creation_by};
+ghost use Rattle.file_admin.specs.Outcomes.{PerformsTree, AnswersTree, CommitsTree, IfNothingPasses, EndsTree, ChangesNodes, IsDone, changes_by, creation_by};
+ghost use Rattle.file_admin.specs.Writes.{WritesTree};
 
 use crate::adding::add_file;
 use crate::channels::{df_on, selection_of};
@@ -41,6 +42,8 @@ fn create<S: Store>(
     requires new { is_there (descriptors_of loaded.old) (df_on channels.old channel) file.now ≡ false }
     ensures done { IsDone result (memory S.Store store.old loaded.old) (memory S.Store store.new loaded.new)
         channels.old channels.new (λ state. created_if_room state channels.old channel file.now) }
+    ensures writes { WritesTree result (memory S.Store store.old loaded.old) (memory S.Store store.new loaded.new)
+        (λ state. changes_by channels.old (created_if_room state channels.old channel file.now)) }
     ensures still { IfNothingPasses loaded.old channels.old
         (λ state. created_if_room state channels.old channel file.now)
         (IsOk result × (store.new ≡ store.old) × (loaded.new ≡ loaded.old)) }
@@ -77,6 +80,8 @@ fn try_create<S: Store>(
     requires open { is_open channels.old (channel_of command.now.class) ≡ true }
     ensures done { IsDone result (memory S.Store store.old loaded.old) (memory S.Store store.new loaded.new)
         channels.old channels.new (creation_by command.now seen.now channels.old) }
+    ensures writes { WritesTree result (memory S.Store store.old loaded.old) (memory S.Store store.new loaded.new)
+        (λ state. changes_by channels.old (creation_by command.now seen.now channels.old state)) }
     ensures still { IfNothingPasses loaded.old channels.old (creation_by command.now seen.now channels.old)
         (IsOk result × (store.new ≡ store.old) × (loaded.new ≡ loaded.old)) }
     ensures ends { ChangesNodes result loaded.old loaded.new }
@@ -108,6 +113,8 @@ pub fn create_file<S: Store>(
     requires open { is_open channels.old (channel_of command.now.class) ≡ true }
     ensures performs { PerformsTree result (memory S.Store store.old loaded.old) (memory S.Store store.new loaded.new)
         out.new channels.old channels.new (creation_by command.now seen.now channels.old) }
+    ensures writes { WritesTree result (memory S.Store store.old loaded.old) (memory S.Store store.new loaded.new)
+        (λ state. changes_by channels.old (creation_by command.now seen.now channels.old state)) }
     ensures answers { OnOk result (AnswersTree loaded.old loaded.new out.new.status channels.old channels.new
         (creation_by command.now seen.now channels.old)) }
     ensures still { IfNothingPasses loaded.old channels.old (creation_by command.now seen.now channels.old)

@@ -1,13 +1,15 @@
 //! DELETE FILE.
-ghost use Rattle.std.specs.Prelude.{◌≡◌, true, false, Ok, IsOk, OnOk};
+ghost use Rattle.std.specs.Prelude.{◌≡◌, [], ◌∷◌, true, false, Ok, IsOk, OnOk};
+ghost use Rattle.card_state.specs.Changes.{TakeFile};
 ghost use Rattle.card_state.specs.Memory.{IsMounted, memory};
 ghost use Rattle.apdu_form.specs.Classes.{channel_of};
 ghost use Rattle.file_model.specs.Channels.{is_open};
 ghost use Rattle.file_model.specs.Files.{descriptors_of};
 ghost use Rattle.file_model.specs.Deleting.{is_in_use, deleting};
 ghost use Rattle.file_model.specs.LawfulTrees.{AreSelected};
+ghost use Rattle.card_commits.specs.Performing.{WritesAll};
 ghost use Rattle.file_tree.specs.Tables.{IsNumbered};
-ghost use Rattle.file_admin.specs.Outcomes.{PerformsTree, AnswersTree, CommitsTree, IfNothingPasses, EndsTree, ChangesNodes, IsDone, IsNamedIn, deletion_by};
+ghost use Rattle.file_admin.specs.Outcomes.{PerformsTree, AnswersTree, CommitsTree, IfNothingPasses, EndsTree, ChangesNodes, IsDone, IsNamedIn, changes_by, deletion_by};
 
 use crate::channels::leave;
 use crate::entries::entry_of;
@@ -36,6 +38,8 @@ fn delete<S: Store>(
     requires unused { is_in_use (descriptors_of loaded.old) channels.old file.now ≡ false }
     ensures done { IsDone result (memory S.Store store.old loaded.old) (memory S.Store store.new loaded.new)
         channels.old channels.new (λ state. Ok (deleting state channels.old file.now)) }
+    ensures writes { WritesAll result (memory S.Store store.old loaded.old) (memory S.Store store.new loaded.new)
+        (λ state. TakeFile file.now.number ∷ []) }
     ensures still { IfNothingPasses loaded.old channels.old (λ state. Ok (deleting state channels.old file.now))
         (IsOk result × (store.new ≡ store.old) × (loaded.new ≡ loaded.old)) }
     ensures ends { ChangesNodes result loaded.old loaded.new }
@@ -69,6 +73,8 @@ fn try_delete<S: Store>(
     requires mounted { IsMounted (memory S.Store store.old loaded.old) }
     ensures done { IsDone result (memory S.Store store.old loaded.old) (memory S.Store store.new loaded.new)
         channels.old channels.new (deletion_by command.now seen.now channels.old) }
+    ensures writes { WritesAll result (memory S.Store store.old loaded.old) (memory S.Store store.new loaded.new)
+        (λ state. changes_by channels.old (deletion_by command.now seen.now channels.old state)) }
     ensures still { IfNothingPasses loaded.old channels.old (deletion_by command.now seen.now channels.old)
         (IsOk result × (store.new ≡ store.old) × (loaded.new ≡ loaded.old)) }
     ensures ends { ChangesNodes result loaded.old loaded.new }
@@ -100,6 +106,8 @@ pub fn delete_file<S: Store>(
     requires open { is_open channels.old (channel_of command.now.class) ≡ true }
     ensures performs { PerformsTree result (memory S.Store store.old loaded.old) (memory S.Store store.new loaded.new)
         out.new channels.old channels.new (deletion_by command.now seen.now channels.old) }
+    ensures writes { WritesAll result (memory S.Store store.old loaded.old) (memory S.Store store.new loaded.new)
+        (λ state. changes_by channels.old (deletion_by command.now seen.now channels.old state)) }
     ensures answers { OnOk result (AnswersTree loaded.old loaded.new out.new.status channels.old channels.new
         (deletion_by command.now seen.now channels.old)) }
     ensures still { IfNothingPasses loaded.old channels.old (deletion_by command.now seen.now channels.old)

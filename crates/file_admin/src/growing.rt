@@ -2,9 +2,11 @@
 ghost use Rattle.std.specs.Prelude.{◌≡◌, ◌<◌, OnOk, OnErr};
 ghost use Rattle.card_state.specs.Memory.{IsMounted, Committed, memory};
 ghost use Rattle.card_state.specs.Persistent.{Persistent};
+ghost use Rattle.layout_entries.specs.Spelling.{node_part};
 ghost use Rattle.layout_laws.specs.Changes.{with_node};
 ghost use Rattle.layout_laws.specs.Known.{IsBesideNodes};
 ghost use Rattle.card_commits.specs.Prepared.{IsTransparentFile, moved};
+ghost use Rattle.file_admin.specs.Writes.{WritesOver};
 ghost use Rattle.file_admin.specs.Written.{IsWrittenOver};
 
 use card_commits::{commit_node, prepare_moved};
@@ -30,6 +32,9 @@ pub fn grow<S: Store>(
         → IsWrittenOver loaded.old (moved node.now place size) number
         (record node.now { place = place; size = size }) 10 14 change
         → Committed (memory S.Store store.old loaded.old) (memory S.Store store.new loaded.new) result change }
+    ensures writes { WritesOver (memory S.Store store.old loaded.old) (memory S.Store store.new loaded.new) result
+        (moved node.now place size) place size
+        (node_part number (record node.now { place = place; size = size }) 10 14) }
     ensures table { OnOk result
         (loaded.new ≡ with_node loaded.old number (record node.now { place = place; size = size })) }
     ensures kept { OnErr result (loaded.new ≡ loaded.old) }

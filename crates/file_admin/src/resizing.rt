@@ -9,7 +9,8 @@ ghost use Rattle.file_model.specs.declared.selections.Selection.{Selection};
 ghost use Rattle.file_model.specs.LawfulTrees.{AreSelected};
 ghost use Rattle.file_model.specs.Resizing.{may_have, resized_if_room};
 ghost use Rattle.file_tree.specs.Tables.{IsNumbered};
-ghost use Rattle.file_admin.specs.Outcomes.{PerformsTree, AnswersTree, CommitsTree, IfNothingPasses, EndsTree, ChangesNodes, IsDone, resizing_by};
+ghost use Rattle.file_admin.specs.Outcomes.{PerformsTree, AnswersTree, CommitsTree, IfNothingPasses, EndsTree, ChangesNodes, IsDone, changes_by, resizing_by};
+ghost use Rattle.file_admin.specs.Writes.{WritesTree};
 
 use crate::entries::entry_of;
 use crate::growing::grow;
@@ -41,6 +42,9 @@ fn shrink_to<S: Store>(
     ensures done { (channels : List (Option Selection))
         → IsDone result (memory S.Store store.old loaded.old) (memory S.Store store.new loaded.new) channels channels
         (λ state. resized_if_room state channels size file.now) }
+    ensures writes { (channels : List (Option Selection))
+        → WritesTree result (memory S.Store store.old loaded.old) (memory S.Store store.new loaded.new)
+        (λ state. changes_by channels (resized_if_room state channels size file.now)) }
     ensures still { (channels : List (Option Selection))
         → IfNothingPasses loaded.old channels (λ state. resized_if_room state channels size file.now)
         (IsOk result × (store.new ≡ store.old) × (loaded.new ≡ loaded.old)) }
@@ -74,6 +78,9 @@ fn grow_to<S: Store>(
     ensures done { (channels : List (Option Selection))
         → IsDone result (memory S.Store store.old loaded.old) (memory S.Store store.new loaded.new) channels channels
         (λ state. resized_if_room state channels size file.now) }
+    ensures writes { (channels : List (Option Selection))
+        → WritesTree result (memory S.Store store.old loaded.old) (memory S.Store store.new loaded.new)
+        (λ state. changes_by channels (resized_if_room state channels size file.now)) }
     ensures still { (channels : List (Option Selection))
         → IfNothingPasses loaded.old channels (λ state. resized_if_room state channels size file.now)
         (IsOk result × (store.new ≡ store.old) × (loaded.new ≡ loaded.old)) }
@@ -109,6 +116,9 @@ fn resize_to<S: Store>(
     ensures done { (channels : List (Option Selection))
         → IsDone result (memory S.Store store.old loaded.old) (memory S.Store store.new loaded.new) channels channels
         (λ state. resized_if_room state channels size file.now) }
+    ensures writes { (channels : List (Option Selection))
+        → WritesTree result (memory S.Store store.old loaded.old) (memory S.Store store.new loaded.new)
+        (λ state. changes_by channels (resized_if_room state channels size file.now)) }
     ensures still { (channels : List (Option Selection))
         → IfNothingPasses loaded.old channels (λ state. resized_if_room state channels size file.now)
         (IsOk result × (store.new ≡ store.old) × (loaded.new ≡ loaded.old)) }
@@ -137,6 +147,8 @@ fn try_resize<S: Store>(
     requires mounted { IsMounted (memory S.Store store.old loaded.old) }
     ensures done { IsDone result (memory S.Store store.old loaded.old) (memory S.Store store.new loaded.new)
         channels.now channels.now (resizing_by command.now seen.now channels.now) }
+    ensures writes { WritesTree result (memory S.Store store.old loaded.old) (memory S.Store store.new loaded.new)
+        (λ state. changes_by channels.now (resizing_by command.now seen.now channels.now state)) }
     ensures still { IfNothingPasses loaded.old channels.now (resizing_by command.now seen.now channels.now)
         (IsOk result × (store.new ≡ store.old) × (loaded.new ≡ loaded.old)) }
     ensures ends { ChangesNodes result loaded.old loaded.new }
@@ -168,6 +180,8 @@ pub fn resize_file<S: Store>(
     requires open { is_open channels.old (channel_of command.now.class) ≡ true }
     ensures performs { PerformsTree result (memory S.Store store.old loaded.old) (memory S.Store store.new loaded.new)
         out.new channels.old channels.new (resizing_by command.now seen.now channels.old) }
+    ensures writes { WritesTree result (memory S.Store store.old loaded.old) (memory S.Store store.new loaded.new)
+        (λ state. changes_by channels.old (resizing_by command.now seen.now channels.old state)) }
     ensures answers { OnOk result (AnswersTree loaded.old loaded.new out.new.status channels.old channels.new
         (resizing_by command.now seen.now channels.old)) }
     ensures still { IfNothingPasses loaded.old channels.old (resizing_by command.now seen.now channels.old)

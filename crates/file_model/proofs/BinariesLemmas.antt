@@ -4,6 +4,7 @@ use Rattle.std.proofs.lemmas.List.Elements.{All-contains}
 use Rattle.uicc_types.specs.declared.answers.TheConstants.StatusWord.{DONE, END_OF_FILE}
 use Rattle.apdu_form.specs.Model.{Apdu}
 use Rattle.card_state.specs.Persistent.{File, Persistent}
+use Rattle.card_state.specs.Changes.{PutBytes}
 use Rattle.card_state.specs.Changing.{bytes_put}
 use Rattle.card_state.specs.Soundness.{IsSoundFile}
 use Rattle.file_model.specs.declared.descriptors.Descriptor.{Descriptor}
@@ -64,7 +65,7 @@ updating_so state card selection apdu whole there lawful is inside =
     let put = bytes_put_so whole.kind whole.size (offset_of apdu) apdu.body whole.contents one.contents (ltb-false whole.size (offset_of apdu + length apdu.body) inside) in
     committed_so state card (λ file. record file { contents = bytes_put (offset_of apdu) apdu.body file.contents })
     (λ file. record { number = refl; parent = refl; kind = refl; id = refl; short = refl; rule = refl; place = refl; size = refl }) whole there is.ef put.0 put.1 (one.ef is.ef).life
-    [] (updating state selection apdu (descriptor_in whole)).selection
+    [] (updating state selection apdu (descriptor_in whole)).selection (PutBytes whole.number (offset_of apdu) apdu.body)
     (worked_so state selection (short_in_p1 apdu) (descriptor_in whole) (pointer_before selection (short_in_p1 apdu)) lawful is is.pointer) (omega arith)
 
 pub binary_updated_so : IsLawfulCommand binary_updated

@@ -39,7 +39,7 @@ unfolding pin_found
 key_found pins key pin is = eqb-true pin.key key (find_Some (λ (p : Pin). p.key == key) pins pin is).1
 
 -- with its own key it is found itself
-itself_found : (pins : List Pin) (pin before : Pin) → pin_found pins pin.key ≡ Some before → pin_found (with_pin pins pin) pin.key ≡ Some pin
+pub itself_found : (pins : List Pin) (pin before : Pin) → pin_found pins pin.key ≡ Some before → pin_found (with_pin pins pin) pin.key ≡ Some pin
 itself_found pins pin before is =
     found_then pins pin pin.key ∙ ap (option_map (put pin)) is
     ∙ ap (λ (p : Pin). Some p) (cond-true (before.key == pin.key) pin before (eq-eqb before.key pin.key (key_found pins pin.key before is)))

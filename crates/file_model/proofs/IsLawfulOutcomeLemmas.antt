@@ -4,6 +4,7 @@ use Rattle.std.proofs.lemmas.Bool.{cases_eq, eq-eqb, ne_eqb, cond-true, cond-fal
 use Rattle.std.proofs.lemmas.List.Elements.{All-nil, All-cons, All-map, All-contains_itself}
 use Rattle.uicc_types.specs.declared.answers.StatusWord.{StatusWord}
 use Rattle.uicc_types.specs.declared.answers.TheConstants.StatusWord.{DONE, END_OF_FILE, FILE_DEACTIVATED}
+use Rattle.card_state.specs.Changes.{Change}
 use Rattle.card_state.specs.Kinds.{activated, deactivated}
 use Rattle.card_state.specs.Persistent.{File, Persistent}
 use Rattle.card_state.specs.Changing.{with_file_changed}
@@ -59,9 +60,9 @@ module _ (state : Persistent) (card : IsSoundCard state) (change : File → File
       subst (λ (f : File). record_count (change f).contents ≡ record_count f.contents) (sym (same_file state card.sound change keeps whole there ef contents life file is_there same)) shape.count
 
   -- an outcome with this commit
-  pub committed_so : (body : List ℕ) (selection : Selection) → IsSelection (descriptors_in state) selection → length body ≤ 256
-      → IsLawfulOutcome state (record { body = body; status = DONE; selection = selection; passed = next ∷ [] })
-  committed_so body selection lawful short = record {
+  pub committed_so : (body : List ℕ) (selection : Selection) (made : Change) → IsSelection (descriptors_in state) selection → length body ≤ 256
+      → IsLawfulOutcome state (record { body = body; status = DONE; selection = selection; passed = next ∷ []; changes = made ∷ [] })
+  committed_so body selection made lawful short = record {
     commits = omega arith;
     steps = (record { number = whole.number; change = change; attributes = keeps; changed = refl }, tt);
     sound = All-cons IsSoundCard next [] next_card (All-nil IsSoundCard);

@@ -11,6 +11,7 @@ use Rattle.list_laws.proofs.CondLemmas.{mapped_Some, second_false}
 use Rattle.list_laws.proofs.FindLemmas.{find_Some, numbered_found}
 use Rattle.uicc_types.specs.declared.answers.StatusWord.{StatusWord}
 use Rattle.card_state.specs.declared.shapes.Shape.TheVariants.{Transparent, Linear, Cyclic}
+use Rattle.card_state.specs.Changes.{FitFile}
 use Rattle.card_state.specs.Changing.{listed, placed, with_file_at}
 use Rattle.card_state.specs.Kinds.{df_kind, transparent_kind, is_ef_kind}
 use Rattle.card_state.specs.Persistent.{Contents, Files, Bytes, Records, File, Persistent}
@@ -367,7 +368,7 @@ module _ (state : Persistent) (room : Option ℕ) (size : ℕ) (file : File) (th
   pub resized_keeps : Keeps state next
   resized_keeps selection is = kept_selection (descriptors_in state) (descriptors_in next) selection.df selection.ef selection.pointer is (resized_kept selection.df) (ef_kept selection.ef)
 
-nothing_done : (state : Persistent) (channels : List (Option Selection)) → AreSelected (descriptors_in state) channels → IsLawfulTree state channels (record { channels = channels; passed = [] })
+nothing_done : (state : Persistent) (channels : List (Option Selection)) → AreSelected (descriptors_in state) channels → IsLawfulTree state channels (record { channels = channels; passed = []; changes = [] })
 nothing_done state channels selected = record { commits = omega arith; steps = tt; sound = All-nil IsSoundCard; many = refl; still_open = λ channel is_open. is_open; selected = selected }
 
 file_lawful : FileFits → (state : Persistent) (channels : List (Option Selection)) (size : ℕ) (file : File) → IsSoundCard state → AreSelected (descriptors_in state) channels → Contains state.files file
@@ -378,7 +379,7 @@ file_lawful fits state channels size file card selected there kind may room =
     let next : Persistent = with_file_at state file.number (Some new) in
     let this : file_with_number state file.number ≡ Some file = numbered_found (λ (f : File). f.number) state.files file (λ i j d less low. (card.sound.distinct_files i j d less low).number) there in
     let narrow : IsNarrow file = All-contains IsNarrow state.files file card.short there in
-    let done : IsLawfulTree state channels (record { channels = channels; passed = next ∷ [] }) = record {
+    let done : IsLawfulTree state channels (record { channels = channels; passed = next ∷ []; changes = FitFile file.number (Some new) ∷ [] }) = record {
       commits = omega arith;
       steps = (record { number = file.number; file = Some new; named = refl; changed = refl }, tt);
       sound = All-cons IsSoundCard next [] (record {
@@ -389,10 +390,10 @@ file_lawful fits state channels size file card selected there kind may room =
       still_open = λ channel is_open. is_open;
       selected = each_channel state next channels (resized_keeps state (room_at state size) size file this) selected;
     } in
-    ⊎_elim {C = IsLawfulTree state channels (record { channels = channels; passed = cond (file.size == size) [] (with_file_at state file.number (option_map (file_resized (room_at state size) size) (file_with_number state file.number)) ∷ []) })}
-    (λ same. subst (λ (b : Bool). IsLawfulTree state channels (record { channels = channels; passed = cond b [] (with_file_at state file.number (option_map (file_resized (room_at state size) size) (file_with_number state file.number)) ∷ []) })) (sym same) (nothing_done state channels selected))
-    (λ other. subst (λ (b : Bool). IsLawfulTree state channels (record { channels = channels; passed = cond b [] (with_file_at state file.number (option_map (file_resized (room_at state size) size) (file_with_number state file.number)) ∷ []) })) (sym other)
-    (subst (λ (o : Option File). IsLawfulTree state channels (record { channels = channels; passed = with_file_at state file.number (option_map (file_resized (room_at state size) size) o) ∷ [] })) (sym this) done))
+    ⊎_elim {C = IsLawfulTree state channels (record { channels = channels; passed = cond (file.size == size) [] (with_file_at state file.number (option_map (file_resized (room_at state size) size) (file_with_number state file.number)) ∷ []); changes = cond (file.size == size) [] (FitFile file.number (option_map (file_resized (room_at state size) size) (file_with_number state file.number)) ∷ []) })}
+    (λ same. subst (λ (b : Bool). IsLawfulTree state channels (record { channels = channels; passed = cond b [] (with_file_at state file.number (option_map (file_resized (room_at state size) size) (file_with_number state file.number)) ∷ []); changes = cond b [] (FitFile file.number (option_map (file_resized (room_at state size) size) (file_with_number state file.number)) ∷ []) })) (sym same) (nothing_done state channels selected))
+    (λ other. subst (λ (b : Bool). IsLawfulTree state channels (record { channels = channels; passed = cond b [] (with_file_at state file.number (option_map (file_resized (room_at state size) size) (file_with_number state file.number)) ∷ []); changes = cond b [] (FitFile file.number (option_map (file_resized (room_at state size) size) (file_with_number state file.number)) ∷ []) })) (sym other)
+    (subst (λ (o : Option File). IsLawfulTree state channels (record { channels = channels; passed = with_file_at state file.number (option_map (file_resized (room_at state size) size) o) ∷ []; changes = FitFile file.number (option_map (file_resized (room_at state size) size) o) ∷ [] })) (sym this) done))
     (cases_Bool (file.size == size))
 
 resized_lawful : FileFits → (state : Persistent) (channels : List (Option Selection)) (df size : ℕ) (bytes : List ℕ) (told : Descriptor) → IsSoundCard state → AreSelected (descriptors_in state) channels

@@ -3,6 +3,7 @@ use Rattle.std.proofs.Common.{◌≡◌, ℕ, Bool, true, false, [], ◌∷◌, 
 use Rattle.std.proofs.lemmas.List.Elements.{All-contains}
 use Rattle.uicc_types.specs.declared.answers.TheConstants.StatusWord.{DONE}
 use Rattle.apdu_form.specs.Model.{Apdu}
+use Rattle.card_state.specs.Changes.{Change, PutLife}
 use Rattle.card_state.specs.Kinds.{activated, deactivated}
 use Rattle.card_state.specs.Persistent.{File, Persistent}
 use Rattle.card_state.specs.Changing.{with_life}
@@ -20,20 +21,20 @@ use Rattle.file_model.proofs.HasSameShapeLemmas.{same_shape}
 use Rattle.file_model.proofs.IsSelectionLemmas.{IsAddressed, addressed_so}
 use Rattle.file_model.proofs.IsLawfulOutcomeLemmas.{unchanged_so, committed_so}
 
-already_or_now : (state : Persistent) (b : Bool) (selection : Selection) (next : Persistent) → IsSelection (descriptors_in state) selection
-    → IsLawfulOutcome state (record { body = []; status = DONE; selection = selection; passed = next ∷ [] })
-    → IsLawfulOutcome state (record { body = []; status = DONE; selection = selection; passed = if b then [] else next ∷ [] })
-already_or_now state true selection next lawful now = unchanged_so state (record { body = []; status = DONE; selection = selection; passed = [] }) refl lawful (omega arith) (0, omega arith, refl)
-already_or_now state false selection next lawful now = now
+already_or_now : (state : Persistent) (b : Bool) (selection : Selection) (next : Persistent) (made : Change) → IsSelection (descriptors_in state) selection
+    → IsLawfulOutcome state (record { body = []; status = DONE; selection = selection; passed = next ∷ []; changes = made ∷ [] })
+    → IsLawfulOutcome state (record { body = []; status = DONE; selection = selection; passed = if b then [] else next ∷ []; changes = if b then [] else made ∷ [] })
+already_or_now state true selection next made lawful now = unchanged_so state (record { body = []; status = DONE; selection = selection; passed = []; changes = [] }) refl lawful (omega arith) (0, omega arith, refl)
+already_or_now state false selection next made lawful now = now
 
 bringing_so : (state : Persistent) (card : IsSoundCard state) (selection : Selection) (life : ℕ) (whole : File) → Contains state.files whole → IsSelection (descriptors_in state) selection
     → IsAddressed state selection None (descriptor_in whole) → (life ≡ deactivated) ⊎ (life ≡ activated) → IsLawfulOutcome state (bringing state selection life (descriptor_in whole))
 unfolding bringing descriptor_in
 bringing_so state card selection life whole there lawful is known =
     let one : IsSoundFile state.is_wide state.files whole = All-contains (IsSoundFile state.is_wide state.files) state.files whole card.sound.files there in
-    already_or_now state (whole.life == life) selection (with_life whole.number life state) lawful
+    already_or_now state (whole.life == life) selection (with_life whole.number life state) (PutLife whole.number life) lawful
     (committed_so state card (λ file. record file { life = life }) (λ file. record { number = refl; parent = refl; kind = refl; id = refl; short = refl; rule = refl; place = refl; size = refl }) whole there is.ef
-    one.contents (same_shape whole.contents) known [] selection lawful (omega arith))
+    one.contents (same_shape whole.contents) known [] selection (PutLife whole.number life) lawful (omega arith))
 
 life_file_so : (state : Persistent) (selection : Selection) (apdu : Apdu) → IsSoundCard state → IsSelection (descriptors_in state) selection
     → MatchResult (life_file (descriptors_in state) selection apdu) (IsAddressed state selection None) IsFileRefusal

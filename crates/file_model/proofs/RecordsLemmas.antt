@@ -11,6 +11,7 @@ use Rattle.list_laws.proofs.IfSomeLemmas.{if_some_at}
 use Rattle.list_laws.proofs.CondLemmas.{low_chosen}
 use Rattle.uicc_types.specs.declared.answers.TheConstants.StatusWord.{DONE, END_OF_FILE}
 use Rattle.apdu_form.specs.Model.{Apdu}
+use Rattle.card_state.specs.Changes.{Change, PutRecord, PutNewest}
 use Rattle.card_state.specs.Kinds.{has_records, is_ef_kind, cyclic_kind}
 use Rattle.card_state.specs.Persistent.{Contents, Files, Bytes, Records, File, Persistent}
 use Rattle.card_state.specs.Changing.{record_put, record_pushed, with_record, with_newest_record}
@@ -179,23 +180,23 @@ same_attributes contents file = record { number = refl; parent = refl; kind = re
 -- a new first record, and another record
 newest_so : (state : Persistent) (card : IsSoundCard state) (body sum : List ℕ) (selection : Selection) (whole : File) → Contains state.files whole → IsTrue (is_ef_kind whole.kind) → HasRecords state whole
     → length sum ≡ record_width whole.contents → IsSelection (descriptors_in state) selection → length body ≤ 256
-    → IsLawfulOutcome state (record { body = body; status = DONE; selection = selection; passed = with_newest_record whole.number sum state ∷ [] })
+    → IsLawfulOutcome state (record { body = body; status = DONE; selection = selection; passed = with_newest_record whole.number sum state ∷ []; changes = PutNewest whole.number sum ∷ [] })
 newest_so state card body sum selection whole there ef has long lawful short =
     let put = record_pushed_so whole.kind whole.size sum whole.contents has.one.contents has.some long in
-    committed_so state card (λ file. record file { contents = record_pushed sum file.contents }) (same_attributes (record_pushed sum)) whole there ef put.0 put.1 (has.one.ef ef).life body selection lawful short
+    committed_so state card (λ file. record file { contents = record_pushed sum file.contents }) (same_attributes (record_pushed sum)) whole there ef put.0 put.1 (has.one.ef ef).life body selection (PutNewest whole.number sum) lawful short
 
 another_so : (state : Persistent) (card : IsSoundCard state) (index : ℕ) (bytes : List ℕ) (selection : Selection) (whole : File) → Contains state.files whole → IsTrue (is_ef_kind whole.kind) → HasRecords state whole
     → length bytes ≡ record_width whole.contents → IsSelection (descriptors_in state) selection
-    → IsLawfulOutcome state (record { body = []; status = DONE; selection = selection; passed = with_record whole.number index bytes state ∷ [] })
+    → IsLawfulOutcome state (record { body = []; status = DONE; selection = selection; passed = with_record whole.number index bytes state ∷ []; changes = PutRecord whole.number index bytes ∷ [] })
 another_so state card index bytes selection whole there ef has long lawful =
     let put = record_put_so whole.kind whole.size index bytes whole.contents has.one.contents has.some long in
-    committed_so state card (λ file. record file { contents = record_put index bytes file.contents }) (same_attributes (record_put index bytes)) whole there ef put.0 put.1 (has.one.ef ef).life [] selection lawful (omega arith)
+    committed_so state card (λ file. record file { contents = record_put index bytes file.contents }) (same_attributes (record_put index bytes)) whole there ef put.0 put.1 (has.one.ef ef).life [] selection (PutRecord whole.number index bytes) lawful (omega arith)
 
-either_so : (state : Persistent) (b : Bool) (selection : Selection) (x y : Persistent) → IsLawfulOutcome state (record { body = []; status = DONE; selection = selection; passed = x ∷ [] })
-    → IsLawfulOutcome state (record { body = []; status = DONE; selection = selection; passed = y ∷ [] })
-    → IsLawfulOutcome state (record { body = []; status = DONE; selection = selection; passed = (if b then x else y) ∷ [] })
-either_so state true selection x y first second = first
-either_so state false selection x y first second = second
+either_so : (state : Persistent) (b : Bool) (selection : Selection) (x y : Persistent) (made made' : Change) → IsLawfulOutcome state (record { body = []; status = DONE; selection = selection; passed = x ∷ []; changes = made ∷ [] })
+    → IsLawfulOutcome state (record { body = []; status = DONE; selection = selection; passed = y ∷ []; changes = made' ∷ [] })
+    → IsLawfulOutcome state (record { body = []; status = DONE; selection = selection; passed = (if b then x else y) ∷ []; changes = (if b then made else made') ∷ [] })
+either_so state true selection x y made made' first second = first
+either_so state false selection x y made made' first second = second
 
 number_so : (file : Descriptor) (apdu : Apdu) (pointer : Option ℕ) → 1 ≤ file.count → IfSome pointer (IsAmong file) → IfSome (number_updated file apdu pointer) (IsAmong file)
 number_so file apdu pointer some among = if_chosen (IsAmong file) (is_cyclic file) (Some 1) (record_named file apdu pointer) (λ _. (omega arith, some)) (λ _. named_so file apdu pointer some among)
@@ -208,7 +209,7 @@ updating_so state card selection apdu whole number there lawful is has here long
     let worked : Selection = worked_on selection (descriptor_in whole) (pointer_after apdu number (pointer_before selection (short_in_p2 apdu))) in
     let still = worked_so state selection (short_in_p2 apdu) (descriptor_in whole) (pointer_after apdu number (pointer_before selection (short_in_p2 apdu))) lawful is
     (pointer_so (descriptor_in whole) apdu number (pointer_before selection (short_in_p2 apdu)) here is.pointer) in
-    either_so state (whole.kind == cyclic_kind) worked (with_newest_record whole.number apdu.body state) (with_record whole.number (number - 1) apdu.body state)
+    either_so state (whole.kind == cyclic_kind) worked (with_newest_record whole.number apdu.body state) (with_record whole.number (number - 1) apdu.body state) (PutNewest whole.number apdu.body) (PutRecord whole.number (number - 1) apdu.body)
     (newest_so state card [] apdu.body worked whole there is.ef has long still (omega arith))
     (another_so state card (number - 1) apdu.body worked whole there is.ef has long still)
 

@@ -3,6 +3,7 @@ use Rattle.std.specs.Prelude.{ℕ, ◌+◌, ◌-◌, ◌*◌, ◌==◌, not, ◌
 use Rattle.uicc_types.specs.declared.answers.StatusWord.{StatusWord}
 use Rattle.uicc_types.specs.declared.answers.TheConstants.StatusWord.{DONE, END_OF_FILE, WRONG_PARAMETERS, WRONG_LENGTH, WRONG_STRUCTURE, CONDITIONS_NOT_SATISFIED, SECURITY_NOT_SATISFIED, WRONG_OFFSET}
 use Rattle.apdu_form.specs.Model.{Apdu}
+use Rattle.card_state.specs.Changes.{PutBytes}
 use Rattle.card_state.specs.Kinds.{transparent_kind}
 use Rattle.card_state.specs.Persistent.{Persistent}
 use Rattle.card_state.specs.Changing.{with_bytes}
@@ -66,6 +67,7 @@ reading state selection apdu file count =
       status = if count == 256 || length bytes == count then DONE else END_OF_FILE;
       selection = worked_on selection file (pointer_before selection (short_in_p1 apdu));
       passed = [];
+      changes = [];
     }
 
 -- from the test of access on
@@ -88,6 +90,7 @@ updating state selection apdu file = record {
   status = DONE;
   selection = worked_on selection file (pointer_before selection (short_in_p1 apdu));
   passed = with_bytes file.number (offset_of apdu) apdu.body state ∷ [];
+  changes = PutBytes file.number (offset_of apdu) apdu.body ∷ [];
 }
 
 -- from the test of access on: the data have to end where the file does or before

@@ -2,6 +2,7 @@
 use Rattle.std.specs.Prelude.{List, Result}
 use Rattle.uicc_types.specs.declared.answers.StatusWord.{StatusWord}
 use Rattle.apdu_form.specs.Model.{Apdu}
+use Rattle.card_state.specs.Changes.{PinFields, OfTries, OfUnblockTries, OfValue, OfEnabling, OfUnblocking}
 use Rattle.card_state.specs.Persistent.{Pin, Persistent}
 use Rattle.access_rules.specs.declared.rules.Verified.{Verified}
 use Rattle.file_model.specs.declared.commands.ContentsCommand.{ContentsCommand}
@@ -60,6 +61,18 @@ pin_outcome Change pins verified apdu = pin_changed pins verified apdu
 pin_outcome Disable pins verified apdu = pin_disabled pins verified apdu
 pin_outcome Enable pins verified apdu = pin_enabled pins verified apdu
 pin_outcome Unblock pins verified apdu = pin_unblocked pins verified apdu
+
+-- the fields that a command sets first, where it takes a try, and those that it sets where the value was right
+abbrev pub first_fields : PinCommand → PinFields
+first_fields Unblock = OfUnblockTries
+first_fields _ = OfTries
+
+abbrev pub second_fields : PinCommand → PinFields
+second_fields Verify = OfTries
+second_fields Change = OfValue
+second_fields Disable = OfEnabling
+second_fields Enable = OfEnabling
+second_fields Unblock = OfUnblocking
 
 -- the same, refused or not
 unfoldable pub pin_settled : PinCommand → List Pin → Verified → Apdu → PinOutcome

@@ -3,6 +3,7 @@ use Rattle.std.specs.Prelude.{ℕ, ◌==◌, not, ◌&&◌, ◌||◌, Bool, List
 use Rattle.uicc_types.specs.declared.answers.StatusWord.{StatusWord}
 use Rattle.uicc_types.specs.declared.answers.TheConstants.StatusWord.{WRONG_PARAMETERS, WRONG_LENGTH, SECURITY_NOT_SATISFIED, WRONG_DATA, NO_ROOM, FILE_ALREADY_THERE}
 use Rattle.apdu_form.specs.Model.{Apdu}
+use Rattle.card_state.specs.Changes.{MakeFile}
 use Rattle.card_state.specs.Kinds.{activated}
 use Rattle.card_state.specs.Persistent.{Rule, File, Persistent}
 use Rattle.card_state.specs.Changing.{with_file_at}
@@ -76,6 +77,7 @@ unfoldable pub creating : Persistent → List (Option Selection) → ℕ → Fil
 creating state channels channel file = record {
   channels = slice_set channels channel (Some (selection_of (descriptor_in file)));
   passed = with_file_at state file.number (Some file) ∷ [];
+  changes = MakeFile file ∷ [];
 }
 
 -- the command, where nothing but the lack of room can refuse it

@@ -4,6 +4,7 @@ use Rattle.std.specs.List.{list_any}
 use Rattle.uicc_types.specs.declared.answers.StatusWord.{StatusWord}
 use Rattle.uicc_types.specs.declared.answers.TheConstants.StatusWord.{WRONG_PARAMETERS, WRONG_LENGTH, FILE_NOT_FOUND, SECURITY_NOT_SATISFIED, CONDITIONS_NOT_SATISFIED}
 use Rattle.apdu_form.specs.Model.{Apdu}
+use Rattle.card_state.specs.Changes.{TakeFile}
 use Rattle.card_state.specs.Persistent.{Persistent}
 use Rattle.card_state.specs.Changing.{with_file_at}
 use Rattle.access_rules.specs.declared.rules.Verified.{Verified}
@@ -23,6 +24,7 @@ unfoldable pub deleting : Persistent → List (Option Selection) → Descriptor 
 deleting state channels file = record {
   channels = all_without_ef file.number channels;
   passed = with_file_at state file.number None ∷ [];
+  changes = TakeFile file.number ∷ [];
 }
 
 -- DELETE FILE: what it comes to; it is refused where P1 and P2 are not 00 (6A86), where the data are not two bytes (6700) or name no file of the

@@ -3,6 +3,7 @@ use Rattle.std.specs.Prelude.{ℕ, ◌==◌, if◌then◌else◌, List, [], ◌�
 use Rattle.uicc_types.specs.declared.answers.StatusWord.{StatusWord}
 use Rattle.uicc_types.specs.declared.answers.TheConstants.StatusWord.{DONE, WRONG_PARAMETERS, WRONG_LENGTH, SECURITY_NOT_SATISFIED}
 use Rattle.apdu_form.specs.Model.{Apdu}
+use Rattle.card_state.specs.Changes.{PutLife}
 use Rattle.card_state.specs.Kinds.{activated, deactivated}
 use Rattle.card_state.specs.Persistent.{Persistent}
 use Rattle.card_state.specs.Changing.{with_life}
@@ -24,6 +25,7 @@ bringing state selection life file = record {
   status = DONE;
   selection = selection;
   passed = if file.life == life then [] else with_life file.number life state ∷ [];
+  changes = if file.life == life then [] else PutLife file.number life ∷ [];
 }
 
 -- the current EF, or what refuses the command before access is tested

@@ -3,6 +3,7 @@ use Rattle.std.specs.Prelude.{ℕ, not, ◌&&◌, ◌==◌, Bool, List, [], ◌�
 use Rattle.uicc_types.specs.declared.answers.StatusWord.{StatusWord}
 use Rattle.uicc_types.specs.declared.answers.TheConstants.StatusWord.{NO_CURRENT_FILE, FILE_NOT_FOUND}
 use Rattle.apdu_form.specs.Model.{Apdu}
+use Rattle.card_state.specs.Changes.{Change}
 use Rattle.card_state.specs.Kinds.{deactivated}
 use Rattle.card_state.specs.Persistent.{Pin, Persistent}
 use Rattle.access_rules.specs.declared.rules.Verified.{Verified}
@@ -13,13 +14,14 @@ use Rattle.file_model.specs.Files.{file_found}
 use Rattle.file_model.specs.Chains.{given}
 use Rattle.file_model.specs.Selections.{current_ef}
 
--- A command on files was carried out: the data of its answer and the status, what is selected then, and the persistent
--- state after each of its commits, in order.
+-- A command on files was carried out: the data of its answer and the status, what is selected then, the persistent state after
+-- each of its commits, in order, and the change that each of these makes.
 pub record FileOutcome : Type 0 where
   pub body : List ℕ
   pub status : StatusWord
   pub selection : Selection
   pub passed : List Persistent
+  pub changes : List Change
 
 -- A PIN command was carried out: the status, which keys are verified then, and the PINs after each of its commits, in order.
 pub record PinOutcome : Type 0 where
@@ -34,7 +36,7 @@ last_of state (next ∷ passed) = last_of next passed
 
 -- a refused command has no data and changes nothing
 abbrev pub settled_file : Selection → Result FileOutcome StatusWord → FileOutcome
-settled_file selection (Err status) = record { body = []; status = status; selection = selection; passed = [] }
+settled_file selection (Err status) = record { body = []; status = status; selection = selection; passed = []; changes = [] }
 settled_file selection (Ok outcome) = outcome
 
 -- a refused PIN command answers its status, and changes nothing

@@ -5,6 +5,7 @@ use Rattle.uicc_types.specs.declared.answers.StatusWord.{StatusWord}
 use Rattle.uicc_types.specs.declared.answers.TheConstants.StatusWord.{DONE, WRONG_PARAMETERS, WRONG_LENGTH, PIN_BLOCKED, PIN_DISABLED, CONDITIONS_NOT_SATISFIED, REFERENCE_NOT_FOUND}
 use Rattle.uicc_types.specs.declared.keys.TheConstants.{PIN_1, PIN_2, ADM_1}
 use Rattle.apdu_form.specs.Model.{Apdu}
+use Rattle.card_state.specs.Changes.{PinFields, Change, PutPin}
 use Rattle.card_state.specs.Persistent.{Pin}
 use Rattle.access_rules.specs.declared.rules.Verified.{Verified}
 use Rattle.file_model.specs.Chains.{refused_if, given, needs}
@@ -58,6 +59,12 @@ unblock_presented pins verified pin value new new_verified =
 -- how many tries are left is told, and nothing changes
 abbrev pub told : Verified → ℕ → PinOutcome
 told verified tries = record { status = tries_left tries; verified = verified; passed = [] }
+
+-- the changes that leave these PINs, one after the other: the first sets some fields of the PIN with this key, the second others
+abbrev pub pins_put : PinFields → PinFields → ℕ → List (List Pin) → List Change
+pins_put first second key [] = []
+pins_put first second key (pins ∷ []) = PutPin first key pins ∷ []
+pins_put first second key (pins ∷ others ∷ rest) = PutPin first key pins ∷ PutPin second key others ∷ []
 
 -- ---- the tests that all five have
 

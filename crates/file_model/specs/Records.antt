@@ -4,6 +4,7 @@ use Rattle.std.specs.List.{range_with_len, starts_with}
 use Rattle.uicc_types.specs.declared.answers.StatusWord.{StatusWord}
 use Rattle.uicc_types.specs.declared.answers.TheConstants.StatusWord.{DONE, END_OF_FILE, WRONG_PARAMETERS, WRONG_LENGTH, WRONG_STRUCTURE, CONDITIONS_NOT_SATISFIED, SECURITY_NOT_SATISFIED, RECORD_NOT_FOUND, OVERFLOW}
 use Rattle.apdu_form.specs.Model.{Apdu}
+use Rattle.card_state.specs.Changes.{PutRecord, PutNewest}
 use Rattle.card_state.specs.Kinds.{cyclic_kind, has_records}
 use Rattle.card_state.specs.Persistent.{Persistent}
 use Rattle.card_state.specs.Changing.{with_record, with_newest_record}
@@ -116,6 +117,7 @@ record_reading state selection apdu file number = record {
   status = DONE;
   selection = worked_on selection file (pointer_after apdu number (pointer_before selection (short_in_p2 apdu)));
   passed = [];
+  changes = [];
 }
 
 -- the EF of READ RECORD, which has records, or what refuses the command
@@ -157,6 +159,7 @@ record_updating state selection apdu file number = record {
   status = DONE;
   selection = worked_on selection file (pointer_after apdu number (pointer_before selection (short_in_p2 apdu)));
   passed = (if is_cyclic file then with_newest_record file.number apdu.body state else with_record file.number (number - 1) apdu.body state) ∷ [];
+  changes = (if is_cyclic file then PutNewest file.number apdu.body else PutRecord file.number (number - 1) apdu.body) ∷ [];
 }
 
 -- the EF of UPDATE RECORD, which may be updated in this mode, or what refuses the command
@@ -223,6 +226,7 @@ searching state selection apdu file from =
       status = if length numbers == 0 then END_OF_FILE else DONE;
       selection = worked_on selection file (match_pointer (pointer_before selection (short_in_p2 apdu)) numbers);
       passed = [];
+      changes = [];
     }
 
 -- the EF of SEARCH RECORD, which has records, or what refuses the command
@@ -286,6 +290,7 @@ increasing state selection apdu file sum = record {
   status = DONE;
   selection = worked_on selection file (Some 1);
   passed = with_newest_record file.number sum state ∷ [];
+  changes = PutNewest file.number sum ∷ [];
 }
 
 -- the EF of INCREASE, which may be increased, or what refuses the command

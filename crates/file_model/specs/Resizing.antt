@@ -4,6 +4,7 @@ use Rattle.uicc_types.specs.declared.answers.StatusWord.{StatusWord}
 use Rattle.uicc_types.specs.declared.answers.TheConstants.StatusWord.{WRONG_PARAMETERS, WRONG_LENGTH, FILE_NOT_FOUND, WRONG_STRUCTURE, CONDITIONS_NOT_SATISFIED, SECURITY_NOT_SATISFIED, WRONG_DATA, NO_ROOM}
 use Rattle.apdu_form.specs.Model.{Apdu}
 use Rattle.card_state.specs.declared.sizes.TheConstants.{SIZE_LIMIT}
+use Rattle.card_state.specs.Changes.{FitFile}
 use Rattle.card_state.specs.Decoding.{number_at}
 use Rattle.card_state.specs.Kinds.{transparent_kind}
 use Rattle.card_state.specs.Persistent.{Contents, Files, Bytes, Records, File, Persistent}
@@ -58,6 +59,7 @@ unfoldable pub resizing : Persistent → List (Option Selection) → ℕ → Des
 resizing state channels size file = record {
   channels = channels;
   passed = if file.size == size then [] else with_file_at state file.number (option_map (file_resized (room_at state size) size) (file_with_number state file.number)) ∷ [];
+  changes = if file.size == size then [] else FitFile file.number (option_map (file_resized (room_at state size) size) (file_with_number state file.number)) ∷ [];
 }
 
 -- the command, where nothing but the lack of room can refuse it

@@ -36,6 +36,7 @@ selecting state apdu file = record {
   status = if is_deactivated file then FILE_DEACTIVATED else DONE;
   selection = selection_of file;
   passed = [];
+  changes = [];
 }
 
 -- SELECT: what it comes to; it is refused for P1 and P2 (6A86), for the length of the data (6700), and where no such file is found (6A82)
@@ -59,6 +60,7 @@ telling state selection apdu df = record {
   status = DONE;
   selection = selection;
   passed = [];
+  changes = [];
 }
 
 -- STATUS: what it comes to; it is refused for P1 and P2 (6A86), with data (6700), and where the current DF isn't there (6A82), as on no good card

@@ -3,6 +3,7 @@ use Rattle.std.specs.Prelude.{ℕ, ◌==◌, Bool, false, if◌then◌else◌, L
 use Rattle.std.specs.Option.{option_map_or}
 use Rattle.std.specs.List.{list_any}
 use Rattle.uicc_types.specs.declared.answers.StatusWord.{StatusWord}
+use Rattle.card_state.specs.Changes.{Change}
 use Rattle.card_state.specs.Decoding.{number_at}
 use Rattle.card_state.specs.Persistent.{Persistent}
 use Rattle.file_model.specs.declared.descriptors.Descriptor.{Descriptor}
@@ -10,15 +11,16 @@ use Rattle.file_model.specs.declared.descriptors.Wanted.TheVariants.{Child}
 use Rattle.file_model.specs.declared.selections.Selection.{Selection}
 use Rattle.file_model.specs.Files.{file_found}
 
--- The command was carried out: what is selected on each logical channel then, and the persistent state after its commit, if
--- there was one. The answer is 9000, without data.
+-- The command was carried out: what is selected on each logical channel then, the persistent state after its commit, if there
+-- was one, and the change that this makes. The answer is 9000, without data.
 pub record TreeOutcome : Type 0 where
   pub channels : List (Option Selection)
   pub passed : List Persistent
+  pub changes : List Change
 
 -- a refused command changes nothing
 abbrev pub settled_tree : List (Option Selection) → Result TreeOutcome StatusWord → TreeOutcome
-settled_tree channels (Err status) = record { channels = channels; passed = [] }
+settled_tree channels (Err status) = record { channels = channels; passed = []; changes = [] }
 settled_tree channels (Ok outcome) = outcome
 
 -- ---- what is selected

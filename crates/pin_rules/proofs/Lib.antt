@@ -3,3 +3,4 @@ mod IsTriedLemmas
 mod OutcomesLemmas
 mod PinFoundLemmas
 mod PresentPinLemmas
+mod PutsLemmas

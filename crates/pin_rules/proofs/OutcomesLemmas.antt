@@ -47,7 +47,7 @@ module _ (command : PinCommand) (pins : List Pin) (verified : Verified) (apdu : 
 
   module _ (old new : Memory) (same : (state : Persistent) → held old ≡ Some state → state.pins ≡ pins) where
     -- the same over a store that tells its state
-    told_same : (state : Persistent) → held old ≡ Some state → outcome ≡ pin_settled command state.pins verified apdu
+    pub told_same : (state : Persistent) → held old ≡ Some state → outcome ≡ pin_settled command state.pins verified apdu
     told_same state there = sym (ap (λ (p : List Pin). pin_settled command p verified apdu) (same state there) ∙ settled)
 
     passes_same : (before : Option Persistent) → before ≡ held old → PassesOne before (held new) (λ state. with_each state outcome.passed) → PassesOne before (held new) (λ state. with_each state (pin_settled command state.pins verified apdu).passed)

@@ -4,6 +4,7 @@ use Rattle.std.specs.List.{position_from, position_or_len}
 use Rattle.std.proofs.lemmas.Option.{slice_get_past, slice_get-get_or, cond_some}
 use Rattle.std.proofs.lemmas.Iterator.Adapters.{position_from-zero}
 use Rattle.std.proofs.lemmas.List.Folds.{find_at}
+use Rattle.std.proofs.lemmas.Bool.{eqb-true}
 use Rattle.std.proofs.lemmas.Bool.Decides.{nat_tests}
 use Rattle.list_laws.proofs.FindLemmas.{find-map, find-filter, find_Some}
 use Rattle.list_laws.proofs.IfSomeLemmas.{none_chosen}
@@ -56,3 +57,15 @@ key_of true same is = absurd (subst (λ (b : Bool). is_false b) is cc)
 
 pub has_key : (key : ℕ) (pins : List PinSlot) (pin : PinSlot) → find (is_key key) pins ≡ Some pin → (pin.key == 0) ≡ false
 has_key key pins pin is = key_of (pin.key == 0) (pin.key == key) (find_Some (is_key key) pins pin is).1
+
+-- and it is the one that was looked for
+key_same : (none same : Bool) → (not none && same) ≡ true → same ≡ true
+key_same false same is = is
+key_same true same is = absurd (subst (λ (b : Bool). is_false b) is cc)
+  where
+    is_false : Bool → Type 0
+    is_false true = ⊥
+    is_false false = Unit {0}
+
+pub its_key : (key : ℕ) (pins : List PinSlot) (pin : PinSlot) → find (is_key key) pins ≡ Some pin → pin.key ≡ key
+its_key key pins pin is = eqb-true pin.key key (key_same (pin.key == 0) (pin.key == key) (find_Some (is_key key) pins pin is).1)

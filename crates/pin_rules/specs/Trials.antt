@@ -1,19 +1,22 @@
 -- What a PIN command comes to once no test refuses it.
-use Rattle.std.specs.Prelude.{◌≡◌, ℕ, ◌≤◌, Bool, true, if◌then◌else◌, List, length, Result, Ok, Err}
+use Rattle.std.specs.Prelude.{◌≡◌, ℕ, ◌≤◌, Bool, true, if◌then◌else◌, List, [], length, Result, Ok, Err}
 use Rattle.uicc_types.specs.declared.answers.StatusWord.{StatusWord}
 use Rattle.apdu_form.specs.Model.{Apdu}
 use Rattle.card_state.specs.declared.entries.Loaded.{Loaded}
 use Rattle.card_state.specs.declared.sizes.TheConstants.{TRIES}
+use Rattle.card_state.specs.Changes.{Change, OfTries, OfUnblockTries, OfUnblocking}
 use Rattle.card_state.specs.Persistent.{Pin}
 use Rattle.card_state.specs.States.{pins_of, pin_state}
 use Rattle.card_state.specs.Used.{HasPin}
 use Rattle.access_rules.specs.declared.rules.Verified.{Verified}
 use Rattle.apdu_form.specs.Fields.{has_no_data}
+use Rattle.file_model.specs.declared.commands.PinCommand.{PinCommand}
+use Rattle.file_model.specs.Commands.{first_fields, second_fields}
 use Rattle.file_model.specs.Outcomes.{PinOutcome, settled_pin}
-use Rattle.file_model.specs.Pins.{marked, told, value_presented, pin_presented, unblock_presented}
+use Rattle.file_model.specs.Pins.{marked, told, value_presented, pin_presented, unblock_presented, pins_put}
 use Rattle.card_commits.specs.declared.pins.PinChange.{PinChange}
 use Rattle.card_commits.specs.declared.pins.PinChange.TheVariants.{Tries, UnblockTries, Value, Enabled, Unblocked}
-use Rattle.card_commits.specs.Pins.{changed_pin}
+use Rattle.card_commits.specs.Pins.{changed_pin, fields_of}
 use Rattle.pin_rules.specs.declared.slots.Held.{Held}
 use Rattle.pin_rules.specs.declared.trials.Trial.{Trial}
 use Rattle.pin_rules.specs.declared.trials.Trial.TheVariants.{Tell, Present, Unblock}
@@ -78,3 +81,18 @@ abbrev pub OnlyTells : Trial → Type 0
 OnlyTells (Tell tries) = Unit {0}
 OnlyTells (Present held change verifies) = ⊥
 OnlyTells (Unblock held value) = ⊥
+
+-- ---- what is set
+
+-- Where a value is presented, it is against the PIN with this key, and both commits set the fields that the command sets.
+abbrev pub SetsFields : PinCommand → ℕ → Trial → Type 0
+SetsFields command key (Tell tries) = Unit {0}
+SetsFields command key (Present held change verifies) = (held.pin.key ≡ key) × (first_fields command ≡ OfTries) × (second_fields command ≡ fields_of change)
+SetsFields command key (Unblock held value) = (held.pin.key ≡ key) × (first_fields command ≡ OfUnblockTries) × (second_fields command ≡ OfUnblocking)
+
+-- the changes that leave these PINs; where no value is presented there is none
+abbrev pub trial_puts : Result Trial StatusWord → List (List Pin) → List Change
+trial_puts (Err status) passed = []
+trial_puts (Ok (Tell tries)) passed = []
+trial_puts (Ok (Present held change verifies)) passed = pins_put OfTries (fields_of change) held.pin.key passed
+trial_puts (Ok (Unblock held value)) passed = pins_put OfUnblockTries OfUnblocking held.pin.key passed

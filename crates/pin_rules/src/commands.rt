@@ -2,10 +2,11 @@
 ghost use Rattle.std.specs.Prelude.{◌≡◌, ◌≤◌, [], Err, IfErr, IfOk, IsOk, OnOk, OnErr};
 ghost use Rattle.card_state.specs.Memory.{IsMounted, memory};
 ghost use Rattle.card_state.specs.States.{pins_of};
-ghost use Rattle.file_model.specs.Commands.{pin_outcome, pin_settled};
-ghost use Rattle.card_commits.specs.Performing.{PerformsPin};
+ghost use Rattle.file_model.specs.Commands.{first_fields, second_fields, pin_outcome, pin_settled};
+ghost use Rattle.file_model.specs.Pins.{pins_put};
+ghost use Rattle.card_commits.specs.Performing.{PerformsPin, WritesAll};
 ghost use Rattle.pin_rules.specs.Outcomes.{IsSettled, LeavesOneLess, IsPinRefused, IsPinCutShort, IsTried, ChangesPins, AnswersPins, pin_by_byte, settled_by_byte};
-ghost use Rattle.pin_rules.specs.Trials.{IsTrial, OnlyTells, comes_to};
+ghost use Rattle.pin_rules.specs.Trials.{IsTrial, OnlyTells, comes_to, trial_puts};
 
 use crate::marks::{marked, tries_left};
 use crate::presenting::{present_pin, present_unblock};
@@ -31,6 +32,8 @@ fn carry_out<S: Store>(
     requires usual { IfErr tried (λ status. 0x6700 ≤ status.0) }
     ensures tried { IsTried (comes_to (pins_of loaded.old) verified.old command.now tried)
         (memory S.Store store.old loaded.old) (memory S.Store store.new loaded.new) verified.old verified.new result }
+    ensures writes { WritesAll result (memory S.Store store.old loaded.old) (memory S.Store store.new loaded.new)
+        (λ state. trial_puts tried (comes_to (pins_of loaded.old) verified.old command.now tried).passed) }
     ensures still { IfOk tried OnlyTells → IsOk result × (store.new ≡ store.old) × (loaded.new ≡ loaded.old) }
     ensures ends { ChangesPins (memory S.Store store.old loaded.old) (memory S.Store store.new loaded.new) result }
 {
@@ -71,6 +74,8 @@ pub fn named_pin_command<S: Store>(
         (memory S.Store store.old loaded.old) (memory S.Store store.new loaded.new) out.new.status verified.new) }
     ensures performs { PerformsPin result (memory S.Store store.old loaded.old) (memory S.Store store.new loaded.new)
         out.new verified.new (λ state. pin_settled pin state.pins verified.old command.now) }
+    ensures writes { WritesAll result (memory S.Store store.old loaded.old) (memory S.Store store.new loaded.new) (λ state. pins_put (first_fields pin)
+        (second_fields pin) command.now.p2 (pin_settled pin state.pins verified.old command.now).passed) }
     ensures guessed { OnOk result (LeavesOneLess pin command.now out.new.status
         (pins_of loaded.old) (pins_of loaded.new)) }
     ensures refused { (status : StatusWord) → pin_outcome pin (pins_of loaded.old) verified.old command.now ≡ Err status
@@ -116,6 +121,9 @@ pub fn pin_command<S: Store>(
         (memory S.Store store.old loaded.old) (memory S.Store store.new loaded.new) out.new.status verified.new) }
     ensures performs { PerformsPin result (memory S.Store store.old loaded.old) (memory S.Store store.new loaded.new)
         out.new verified.new (λ state. settled_by_byte state.pins verified.old command.now) }
+    ensures writes { WritesAll result (memory S.Store store.old loaded.old) (memory S.Store store.new loaded.new)
+        (λ state. pins_put (first_fields (pin_by_byte command.now.ins)) (second_fields (pin_by_byte command.now.ins))
+        command.now.p2 (settled_by_byte state.pins verified.old command.now).passed) }
     ensures guessed { OnOk result (LeavesOneLess (pin_by_byte command.now.ins) command.now out.new.status
         (pins_of loaded.old) (pins_of loaded.new)) }
     ensures refused { (status : StatusWord)

@@ -1,8 +1,11 @@
 //! A value is presented (ETSI TS 102 221, 11.1.9 to 11.1.13). That a try is taken and committed before the value is compared is this card's own rule.
 ghost use Rattle.std.specs.Prelude.{◌≡◌, ◌≤◌, length};
+ghost use Rattle.card_state.specs.Changes.{OfTries, OfUnblockTries, OfUnblocking};
 ghost use Rattle.card_state.specs.Memory.{IsMounted, memory};
 ghost use Rattle.card_state.specs.States.{pins_of};
-ghost use Rattle.file_model.specs.Pins.{marked};
+ghost use Rattle.file_model.specs.Pins.{marked, pins_put};
+ghost use Rattle.card_commits.specs.Pins.{fields_of};
+ghost use Rattle.card_commits.specs.Performing.{WritesAll};
 ghost use Rattle.pin_rules.specs.Outcomes.{IsTried, ChangesPins};
 ghost use Rattle.pin_rules.specs.Trials.{IsHeld, GivesTries, pin_trial, unblock_trial};
 
@@ -34,6 +37,9 @@ pub fn present_pin<S: Store>(
     requires gives { GivesTries change }
     ensures tried { IsTried (pin_trial (pins_of loaded.old) verified.old held.now value.now change right)
         (memory S.Store store.old loaded.old) (memory S.Store store.new loaded.new) verified.old verified.new result }
+    ensures writes { WritesAll result (memory S.Store store.old loaded.old) (memory S.Store store.new loaded.new)
+        (λ state. pins_put OfTries (fields_of change) held.now.pin.key
+        (pin_trial (pins_of loaded.old) verified.old held.now value.now change right).passed) }
     ensures ends { ChangesPins (memory S.Store store.old loaded.old) (memory S.Store store.new loaded.new) result }
 {
     // These calls are laws, and do nothing.
@@ -66,6 +72,9 @@ pub fn present_unblock<S: Store>(
     requires long { length value.now ≡ 8 }
     ensures tried { IsTried (unblock_trial (pins_of loaded.old) verified.old held.now value.now new.0)
         (memory S.Store store.old loaded.old) (memory S.Store store.new loaded.new) verified.old verified.new result }
+    ensures writes { WritesAll result (memory S.Store store.old loaded.old) (memory S.Store store.new loaded.new)
+        (λ state. pins_put OfUnblockTries OfUnblocking held.now.pin.key
+        (unblock_trial (pins_of loaded.old) verified.old held.now value.now new.0).passed) }
     ensures ends { ChangesPins (memory S.Store store.old loaded.old) (memory S.Store store.new loaded.new) result }
 {
     // These calls are laws, and do nothing.

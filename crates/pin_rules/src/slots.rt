@@ -25,6 +25,7 @@ fn slot_of(pins: &[PinSlot], key: u8) -> Option<usize>
 pub fn find_pin(loaded: &Loaded, key: u8) -> Option<Held>
     ensures value { option_map (λ held. pin_state held.pin) result ≡ pin_found (pins_of loaded.now) key }
     ensures held { IfSome result (IsHeld loaded.now) }
+    ensures key { IfSome result (λ held. held.pin.key ≡ key) }
 {
     let pins = loaded.all_pins();
     match slot_of(pins, key) {

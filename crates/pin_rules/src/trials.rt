@@ -6,7 +6,7 @@ ghost use Rattle.card_state.specs.States.{pins_of};
 ghost use Rattle.file_model.specs.Commands.{pin_outcome};
 ghost use Rattle.file_model.specs.Outcomes.{PinOutcome};
 ghost use Rattle.file_model.specs.Pins.{is_users_key, is_pin_key, pin_addressed, pin_verified, pin_changed, pin_disabled, pin_enabled, pin_unblocked};
-ghost use Rattle.pin_rules.specs.Trials.{IsHeld, IsTrial, Means, tested_with};
+ghost use Rattle.pin_rules.specs.Trials.{IsHeld, IsTrial, Means, SetsFields, tested_with};
 
 use crate::slots::{Held, find_pin};
 use apdu_form::Command;
@@ -62,6 +62,7 @@ fn addressed(
     ensures means { (next : Pin → Result PinOutcome StatusWord)
         → pin_addressed (pins_of loaded.now) command.now has_length has_key next ≡ tested_with result next }
     ensures held { IfOk result (IsHeld loaded.now) }
+    ensures key { IfOk result (λ held. held.pin.key ≡ command.now.p2) }
     ensures length { IfOk result (λ held. has_length ≡ true) }
     ensures usual { IfErr result (λ status. 0x6700 ≤ status.0) }
 {
@@ -82,6 +83,7 @@ fn addressed(
 fn to_verify(loaded: &Loaded, command: &Command<'_>) -> Result<Trial, StatusWord>
     ensures means { Means pin_verified loaded.now command.now result }
     ensures lawful { IfOk result (IsTrial loaded.now command.now) }
+    ensures sets { IfOk result (SetsFields PinCommand.Verify command.now.p2) }
     ensures usual { IfErr result (λ status. 0x6700 ≤ status.0) }
 {
     let length = command.body.len();
@@ -108,6 +110,7 @@ fn to_verify(loaded: &Loaded, command: &Command<'_>) -> Result<Trial, StatusWord
 fn to_change(loaded: &Loaded, command: &Command<'_>) -> Result<Trial, StatusWord>
     ensures means { Means pin_changed loaded.now command.now result }
     ensures lawful { IfOk result (IsTrial loaded.now command.now) }
+    ensures sets { IfOk result (SetsFields PinCommand.Change command.now.p2) }
     ensures usual { IfErr result (λ status. 0x6700 ≤ status.0) }
 {
     let has_length = command.body.len() == 16;
@@ -127,6 +130,7 @@ fn to_change(loaded: &Loaded, command: &Command<'_>) -> Result<Trial, StatusWord
 fn to_disable(loaded: &Loaded, command: &Command<'_>) -> Result<Trial, StatusWord>
     ensures means { Means pin_disabled loaded.now command.now result }
     ensures lawful { IfOk result (IsTrial loaded.now command.now) }
+    ensures sets { IfOk result (SetsFields PinCommand.Disable command.now.p2) }
     ensures usual { IfErr result (λ status. 0x6700 ≤ status.0) }
 {
     let has_length = command.body.len() == 8;
@@ -145,6 +149,7 @@ fn to_disable(loaded: &Loaded, command: &Command<'_>) -> Result<Trial, StatusWor
 fn to_enable(loaded: &Loaded, command: &Command<'_>) -> Result<Trial, StatusWord>
     ensures means { Means pin_enabled loaded.now command.now result }
     ensures lawful { IfOk result (IsTrial loaded.now command.now) }
+    ensures sets { IfOk result (SetsFields PinCommand.Enable command.now.p2) }
     ensures usual { IfErr result (λ status. 0x6700 ≤ status.0) }
 {
     let has_length = command.body.len() == 8;
@@ -163,6 +168,7 @@ fn to_enable(loaded: &Loaded, command: &Command<'_>) -> Result<Trial, StatusWord
 fn to_unblock(loaded: &Loaded, command: &Command<'_>) -> Result<Trial, StatusWord>
     ensures means { Means pin_unblocked loaded.now command.now result }
     ensures lawful { IfOk result (IsTrial loaded.now command.now) }
+    ensures sets { IfOk result (SetsFields PinCommand.Unblock command.now.p2) }
     ensures usual { IfErr result (λ status. 0x6700 ≤ status.0) }
 {
     let length = command.body.len();
@@ -189,6 +195,7 @@ pub fn trial_of(
 ) -> Result<Trial, StatusWord>
     ensures means { Means (pin_outcome pin) loaded.now command.now result }
     ensures lawful { IfOk result (IsTrial loaded.now command.now) }
+    ensures sets { IfOk result (SetsFields pin command.now.p2) }
     ensures usual { IfErr result (λ status. 0x6700 ≤ status.0) }
 {
     match pin {

@@ -3,5 +3,6 @@ mod HaveRecordsLemmas
 mod IsTargetLemmas
 mod KeepsSelectionsLemmas
 mod NumbersLeftLemmas
+mod PutsLemmas
 mod SettledFileLemmas
 mod SumOfLemmas

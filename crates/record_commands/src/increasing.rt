@@ -1,18 +1,21 @@
 //! INCREASE.
 ghost use Rattle.std.specs.Prelude.{◌≡◌, ◌≢◌, ◌≤◌, [], true, IfOk, IfErr, IfSome, IsOk, OnErr, Err, length};
+ghost use Rattle.card_state.specs.Changes.{PutNewest};
 ghost use Rattle.card_state.specs.Changing.{with_newest_record};
 ghost use Rattle.card_state.specs.Memory.{Committed, IsMounted, Reads, held_by, memory};
 ghost use Rattle.file_model.specs.Files.{descriptors_of};
 ghost use Rattle.file_model.specs.Selections.{IsSelection};
 ghost use Rattle.file_model.specs.Records.{has_increase_parameters, has_increase_length, short_to_increase, may_be_increased, file_to_increase, sum_to_write, increase_in, increased};
 ghost use Rattle.file_model.specs.Outcomes.{settled_file};
-ghost use Rattle.card_commits.specs.Performing.{Performs, StaysStill};
+ghost use Rattle.card_commits.specs.Writing.{WritesChange};
+ghost use Rattle.card_commits.specs.Performing.{Performs, StaysStill, WritesAll};
 ghost use Rattle.file_tree.specs.Tables.{IsCardTable};
 ghost use Rattle.binary_commands.specs.Commands.{IsInPlace};
-ghost use Rattle.binary_commands.specs.Ends.{EndsTry, EndsWell, GivesTried, Passes};
+ghost use Rattle.binary_commands.specs.Ends.{EndsTry, EndsWell, GivesTried, Passes, Puts};
 ghost use Rattle.binary_commands.specs.Targets.{IsRefused};
 ghost use Rattle.record_commands.specs.Tables.{KeepsDescriptors};
 ghost use Rattle.record_commands.specs.Targets.{IsRing, IsTarget};
+ghost use Rattle.record_commands.specs.Updating.{sum_puts};
 
 use crate::adding::sum_of;
 use crate::holding::record_of;
@@ -112,6 +115,8 @@ fn write_first<S: Store>(
     requires width { length bytes.now ≡ file.now.width }
     ensures committed { Committed (memory S.Store store.old loaded.old) (memory S.Store store.new loaded.new) result
         (with_newest_record file.now.number bytes.now) }
+    ensures writes { WritesChange (memory S.Store store.old loaded.old) (memory S.Store store.new loaded.new) result
+        (PutNewest file.now.number bytes.now) }
     ensures kept { OnErr result (loaded.new ≡ loaded.old) }
     ensures files { KeepsDescriptors loaded.old loaded.new }
 {
@@ -137,6 +142,8 @@ fn increase_file<S: Store>(
         out.new (λ state. increase_in state seen.now selection.now command.now file.now) }
     ensures passes { Passes result (memory S.Store store.old loaded.old) (memory S.Store store.new loaded.new)
         selection.now (λ state. increase_in state seen.now selection.now command.now file.now) }
+    ensures puts { Puts result (memory S.Store store.old loaded.old) (memory S.Store store.new loaded.new)
+        (λ state. sum_puts file.now (sum_to_write state command.now file.now)) }
     ensures ends { EndsTry result (memory S.Store store.old loaded.old) (memory S.Store store.new loaded.new)
         out.old out.new }
     ensures files { KeepsDescriptors loaded.old loaded.new }
@@ -171,6 +178,8 @@ fn try_increase<S: Store>(
         out.new (λ state. increased state seen.now selection.now command.now) }
     ensures passes { Passes result (memory S.Store store.old loaded.old) (memory S.Store store.new loaded.new)
         selection.now (λ state. increased state seen.now selection.now command.now) }
+    ensures writes { WritesAll result (memory S.Store store.old loaded.old) (memory S.Store store.new loaded.new)
+        (λ state. (settled_file selection.now (increased state seen.now selection.now command.now)).changes) }
     ensures refused { (status : StatusWord)
         → file_to_increase (descriptors_of loaded.old) selection.now command.now ≡ Err status
         → (result ≡ Ok (Err status)) × (loaded.new ≡ loaded.old) × (store.new ≡ store.old) }
@@ -203,6 +212,8 @@ pub fn increase<S: Store>(
         (λ state. settled_file selection.old (increased state seen.now selection.old command.now)) }
     ensures still { StaysStill (memory S.Store store.old loaded.old) (memory S.Store store.new loaded.new)
         (λ state. (settled_file selection.old (increased state seen.now selection.old command.now)).passed) }
+    ensures writes { WritesAll result (memory S.Store store.old loaded.old) (memory S.Store store.new loaded.new)
+        (λ state. (settled_file selection.old (increased state seen.now selection.old command.now)).changes) }
     ensures ends { EndsWell result (memory S.Store store.old loaded.old) (memory S.Store store.new loaded.new)
         out.new selection.new }
     ensures files { KeepsDescriptors loaded.old loaded.new }

@@ -6,13 +6,14 @@ ghost use Rattle.file_model.specs.Files.{descriptors_of};
 ghost use Rattle.file_model.specs.Selections.{IsSelection};
 ghost use Rattle.file_model.specs.Outcomes.{settled_file};
 ghost use Rattle.file_model.specs.LifeCycles.{life_file, life_in, life_changed, file_deactivated, file_activated};
-ghost use Rattle.card_commits.specs.Performing.{Performs, StaysStill};
+ghost use Rattle.card_commits.specs.Performing.{Performs, StaysStill, WritesAll};
 ghost use Rattle.card_commits.specs.Entries.{HasEf};
 ghost use Rattle.file_tree.specs.Tables.{IsCardTable};
 ghost use Rattle.binary_commands.specs.Commands.{IsInPlace};
-ghost use Rattle.binary_commands.specs.Ends.{EndsTry, EndsWell, GivesTried, Passes};
+ghost use Rattle.binary_commands.specs.Ends.{EndsTry, EndsWell, GivesTried, Passes, Puts};
 ghost use Rattle.binary_commands.specs.Targets.{IsRefused};
 ghost use Rattle.record_commands.specs.Tables.{KeepsOtherFiles};
+ghost use Rattle.record_commands.specs.Updating.{life_puts};
 
 use access_rules::{Op, Verified};
 use apdu_form::Command;
@@ -72,6 +73,8 @@ fn change_file<S: Store>(
         out.new (λ state. life_in change.op change.life state seen.now selection.now file.now) }
     ensures passes { Passes result (memory S.Store store.old loaded.old) (memory S.Store store.new loaded.new)
         selection.now (λ state. life_in change.op change.life state seen.now selection.now file.now) }
+    ensures puts { Puts result (memory S.Store store.old loaded.old) (memory S.Store store.new loaded.new)
+        (λ state. life_puts file.now change.life) }
     ensures ends { EndsTry result (memory S.Store store.old loaded.old) (memory S.Store store.new loaded.new)
         out.old out.new }
     ensures files { KeepsOtherFiles loaded.old loaded.new }
@@ -105,6 +108,8 @@ fn try_change<S: Store>(
         out.new (λ state. life_changed change.op change.life state seen.now selection.now command.now) }
     ensures passes { Passes result (memory S.Store store.old loaded.old) (memory S.Store store.new loaded.new)
         selection.now (λ state. life_changed change.op change.life state seen.now selection.now command.now) }
+    ensures writes { WritesAll result (memory S.Store store.old loaded.old) (memory S.Store store.new loaded.new)
+        (λ state. (settled_file selection.now (life_changed change.op change.life state seen.now selection.now command.now)).changes) }
     ensures refused { (status : StatusWord)
         → life_file (descriptors_of loaded.old) selection.now command.now ≡ Err status
         → (result ≡ Ok (Err status)) × (loaded.new ≡ loaded.old) × (store.new ≡ store.old) }
@@ -136,6 +141,8 @@ pub fn deactivate<S: Store>(
         (λ state. settled_file selection.old (file_deactivated state seen.now selection.old command.now)) }
     ensures still { StaysStill (memory S.Store store.old loaded.old) (memory S.Store store.new loaded.new)
         (λ state. (settled_file selection.old (file_deactivated state seen.now selection.old command.now)).passed) }
+    ensures writes { WritesAll result (memory S.Store store.old loaded.old) (memory S.Store store.new loaded.new)
+        (λ state. (settled_file selection.old (file_deactivated state seen.now selection.old command.now)).changes) }
     ensures ends { EndsWell result (memory S.Store store.old loaded.old) (memory S.Store store.new loaded.new)
         out.new selection.new }
     ensures files { KeepsOtherFiles loaded.old loaded.new }
@@ -170,6 +177,8 @@ pub fn activate<S: Store>(
         (λ state. settled_file selection.old (file_activated state seen.now selection.old command.now)) }
     ensures still { StaysStill (memory S.Store store.old loaded.old) (memory S.Store store.new loaded.new)
         (λ state. (settled_file selection.old (file_activated state seen.now selection.old command.now)).passed) }
+    ensures writes { WritesAll result (memory S.Store store.old loaded.old) (memory S.Store store.new loaded.new)
+        (λ state. (settled_file selection.old (file_activated state seen.now selection.old command.now)).changes) }
     ensures ends { EndsWell result (memory S.Store store.old loaded.old) (memory S.Store store.new loaded.new)
         out.new selection.new }
     ensures files { KeepsOtherFiles loaded.old loaded.new }

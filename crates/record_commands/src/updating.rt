@@ -3,16 +3,17 @@ ghost use Rattle.std.specs.Prelude.{◌≡◌, ◌≢◌, [], IfOk, IfErr, IsOk,
 ghost use Rattle.card_state.specs.Memory.{Committed, IsMounted, memory};
 ghost use Rattle.file_model.specs.Files.{descriptors_of};
 ghost use Rattle.file_model.specs.Selections.{IsSelection};
-ghost use Rattle.file_model.specs.Records.{file_to_update, record_update_in, record_updated, short_in_p2};
+ghost use Rattle.file_model.specs.Records.{file_to_update, number_to_update, record_update_in, record_updated, short_in_p2};
 ghost use Rattle.file_model.specs.Outcomes.{settled_file};
-ghost use Rattle.card_commits.specs.Performing.{Performs, StaysStill};
+ghost use Rattle.card_commits.specs.Writing.{WritesChange};
+ghost use Rattle.card_commits.specs.Performing.{Performs, StaysStill, WritesAll};
 ghost use Rattle.file_tree.specs.Tables.{IsCardTable};
 ghost use Rattle.binary_commands.specs.Commands.{IsInPlace};
-ghost use Rattle.binary_commands.specs.Ends.{EndsTry, EndsWell, GivesTried, Passes};
+ghost use Rattle.binary_commands.specs.Ends.{EndsTry, EndsWell, GivesTried, Passes, Puts};
 ghost use Rattle.binary_commands.specs.Targets.{IsRefused};
 ghost use Rattle.record_commands.specs.Tables.{KeepsDescriptors};
 ghost use Rattle.record_commands.specs.Targets.{IsRecordOf, IsTarget};
-ghost use Rattle.record_commands.specs.Updating.{record_written};
+ghost use Rattle.record_commands.specs.Updating.{record_written, put_record, record_puts};
 
 use crate::numbering::number_to_update;
 use crate::targets::{
@@ -62,6 +63,8 @@ fn write_one<S: Store>(
     requires width { length bytes.now ≡ file.now.width }
     ensures committed { Committed (memory S.Store store.old loaded.old) (memory S.Store store.new loaded.new) result
         (record_written file.now number bytes.now) }
+    ensures writes { WritesChange (memory S.Store store.old loaded.old) (memory S.Store store.new loaded.new) result
+        (put_record file.now number bytes.now) }
     ensures kept { OnErr result (loaded.new ≡ loaded.old) }
     ensures files { KeepsDescriptors loaded.old loaded.new }
 {
@@ -90,6 +93,8 @@ fn update_file<S: Store>(
         out.new (λ state. record_update_in state seen.now selection.now command.now file.now) }
     ensures passes { Passes result (memory S.Store store.old loaded.old) (memory S.Store store.new loaded.new)
         selection.now (λ state. record_update_in state seen.now selection.now command.now file.now) }
+    ensures puts { Puts result (memory S.Store store.old loaded.old) (memory S.Store store.new loaded.new)
+        (λ state. record_puts file.now command.now.body (number_to_update file.now selection.now command.now)) }
     ensures ends { EndsTry result (memory S.Store store.old loaded.old) (memory S.Store store.new loaded.new)
         out.old out.new }
     ensures files { KeepsDescriptors loaded.old loaded.new }
@@ -122,6 +127,8 @@ fn try_update<S: Store>(
         out.new (λ state. record_updated state seen.now selection.now command.now) }
     ensures passes { Passes result (memory S.Store store.old loaded.old) (memory S.Store store.new loaded.new)
         selection.now (λ state. record_updated state seen.now selection.now command.now) }
+    ensures writes { WritesAll result (memory S.Store store.old loaded.old) (memory S.Store store.new loaded.new)
+        (λ state. (settled_file selection.now (record_updated state seen.now selection.now command.now)).changes) }
     ensures refused { (status : StatusWord)
         → file_to_update (descriptors_of loaded.old) selection.now command.now ≡ Err status
         → (result ≡ Ok (Err status)) × (loaded.new ≡ loaded.old) × (store.new ≡ store.old) }
@@ -153,6 +160,8 @@ pub fn update_record<S: Store>(
         (λ state. settled_file selection.old (record_updated state seen.now selection.old command.now)) }
     ensures still { StaysStill (memory S.Store store.old loaded.old) (memory S.Store store.new loaded.new)
         (λ state. (settled_file selection.old (record_updated state seen.now selection.old command.now)).passed) }
+    ensures writes { WritesAll result (memory S.Store store.old loaded.old) (memory S.Store store.new loaded.new)
+        (λ state. (settled_file selection.old (record_updated state seen.now selection.old command.now)).changes) }
     ensures ends { EndsWell result (memory S.Store store.old loaded.old) (memory S.Store store.new loaded.new)
         out.new selection.new }
     ensures files { KeepsDescriptors loaded.old loaded.new }

@@ -1,6 +1,7 @@
 -- READ BINARY and UPDATE BINARY, worked out: the bytes of commands and what they answer.
 use Rattle.std.proofs.Common.{◌≡◌, [], ◌∷◌, Some, None, refl}
 use Rattle.list_laws.specs.Patches.{patched}
+use Rattle.card_state.specs.Changes.{PutBytes}
 use Rattle.card_state.specs.Changing.{with_file_changed}
 use Rattle.access_rules.specs.Reading.{length_in, part_of, part_in, key_truth, part_truth, condition_in, group_truth, mode_of, named_truth, pair_in, pairs_truth, grants}
 use Rattle.file_model.specs.Chains.{refused_if, given, and_given}
@@ -94,12 +95,12 @@ not_allowed_and_past_the_end = refl
 -- ---- UPDATE BINARY
 
 -- 00D6820004AABBCCDD answers 9000
-bytes_are_written : binary_updated card nothing_verified AT_START (command 0x00 0xD6 0x82 0x00 (0xAA ∷ 0xBB ∷ 0xCC ∷ 0xDD ∷ []) None) ≡ committed [] (on_ef 1 None) (with_iccid (0xAA ∷ 0xBB ∷ 0xCC ∷ 0xDD ∷ 0x54 ∷ 0x76 ∷ 0x98 ∷ 0x10 ∷ 0x32 ∷ 0x54 ∷ []))
+bytes_are_written : binary_updated card nothing_verified AT_START (command 0x00 0xD6 0x82 0x00 (0xAA ∷ 0xBB ∷ 0xCC ∷ 0xDD ∷ []) None) ≡ committed [] (on_ef 1 None) (with_iccid (0xAA ∷ 0xBB ∷ 0xCC ∷ 0xDD ∷ 0x54 ∷ 0x76 ∷ 0x98 ∷ 0x10 ∷ 0x32 ∷ 0x54 ∷ [])) (PutBytes 1 0 (0xAA ∷ 0xBB ∷ 0xCC ∷ 0xDD ∷ []))
 unfolding refused_if given and_given descriptor_in descriptors_in file_found held_by arr_found ruling_record may grants pairs_truth pair_in named_truth mode_of group_truth condition_in part_truth key_truth part_in part_of length_in with_file_changed patched addressed binary_file updating update_in binary_updated
 bytes_are_written = refl
 
 -- 00D6000802AABB answers 9000
-behind_an_offset : binary_updated card nothing_verified (on_ef 1 None) (command 0x00 0xD6 0x00 0x08 (0xAA ∷ 0xBB ∷ []) None) ≡ committed [] (on_ef 1 None) (with_iccid (0x98 ∷ 0x10 ∷ 0x10 ∷ 0x32 ∷ 0x54 ∷ 0x76 ∷ 0x98 ∷ 0x10 ∷ 0xAA ∷ 0xBB ∷ []))
+behind_an_offset : binary_updated card nothing_verified (on_ef 1 None) (command 0x00 0xD6 0x00 0x08 (0xAA ∷ 0xBB ∷ []) None) ≡ committed [] (on_ef 1 None) (with_iccid (0x98 ∷ 0x10 ∷ 0x10 ∷ 0x32 ∷ 0x54 ∷ 0x76 ∷ 0x98 ∷ 0x10 ∷ 0xAA ∷ 0xBB ∷ [])) (PutBytes 1 8 (0xAA ∷ 0xBB ∷ []))
 unfolding refused_if given and_given descriptor_in descriptors_in file_found held_by arr_found ruling_record may grants pairs_truth pair_in named_truth mode_of group_truth condition_in part_truth key_truth part_in part_of length_in with_file_changed patched addressed binary_file updating update_in binary_updated
 behind_an_offset = refl
 

@@ -2,6 +2,7 @@
 use Rattle.std.proofs.Common.{ℕ, ◌+◌, ◌*◌, true, false, List, [], ◌∷◌, replicate, Option, Some, None, Ok, Err, Result}
 use Rattle.uicc_types.specs.declared.answers.StatusWord.{StatusWord}
 use Rattle.apdu_form.specs.Model.{Apdu}
+use Rattle.card_state.specs.Changes.{Change}
 use Rattle.card_state.specs.Persistent.{Files, Bytes, Records, File, Pin, Persistent}
 use Rattle.card_state.specs.Soundness.{mf}
 use Rattle.access_rules.specs.declared.rules.Verified.{Verified}
@@ -76,11 +77,11 @@ status number = record { 0 = number }
 
 -- an answer that commits nothing
 abbrev pub answered : List ℕ → ℕ → Selection → Result FileOutcome StatusWord
-answered body number selection = Ok (record { body = body; status = status number; selection = selection; passed = [] })
+answered body number selection = Ok (record { body = body; status = status number; selection = selection; passed = []; changes = [] })
 
--- an answer after one commit
-abbrev pub committed : List ℕ → Selection → Persistent → Result FileOutcome StatusWord
-committed body selection next = Ok (record { body = body; status = status 0x9000; selection = selection; passed = next ∷ [] })
+-- an answer after one commit, which makes this change
+abbrev pub committed : List ℕ → Selection → Persistent → Change → Result FileOutcome StatusWord
+committed body selection next made = Ok (record { body = body; status = status 0x9000; selection = selection; passed = next ∷ []; changes = made ∷ [] })
 
 abbrev pub refused : ℕ → Result FileOutcome StatusWord
 refused number = Err (status number)

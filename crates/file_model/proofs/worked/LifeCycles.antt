@@ -1,5 +1,6 @@
 -- DEACTIVATE FILE and ACTIVATE FILE, worked out: the bytes of commands and what they answer.
 use Rattle.std.proofs.Common.{◌≡◌, [], None, refl}
+use Rattle.card_state.specs.Changes.{PutLife}
 use Rattle.card_state.specs.Changing.{with_file_changed}
 use Rattle.file_model.specs.Chains.{refused_if, given, and_given}
 use Rattle.file_model.specs.Files.{descriptor_in, descriptors_in, file_found}
@@ -11,7 +12,7 @@ use Rattle.file_model.specs.LifeCycles.{bringing, life_file, life_in, life_chang
 use Rattle.file_model.proofs.worked.Cards.{card, quiet_card, busy_card, ruled_card, on_ef, nothing_verified, pin1_verified, command, answered, committed, refused}
 
 -- 00040000 answers 9000
-deactivated_now : file_deactivated busy_card nothing_verified (on_ef 1 None) (command 0x00 0x04 0x00 0x00 [] None) ≡ committed [] (on_ef 1 None) (quiet_card)
+deactivated_now : file_deactivated busy_card nothing_verified (on_ef 1 None) (command 0x00 0x04 0x00 0x00 [] None) ≡ committed [] (on_ef 1 None) (quiet_card) (PutLife 1 0x04)
 unfolding refused_if given and_given descriptor_in descriptors_in file_found held_by arr_found ruling_record may with_file_changed addressed bringing life_file life_in life_changed
 deactivated_now = refl
 
@@ -21,7 +22,7 @@ unfolding refused_if given and_given descriptor_in descriptors_in file_found hel
 deactivated_already = refl
 
 -- 00440000 answers 9000
-activated_again : file_activated quiet_card nothing_verified (on_ef 1 None) (command 0x00 0x44 0x00 0x00 [] None) ≡ committed [] (on_ef 1 None) (busy_card)
+activated_again : file_activated quiet_card nothing_verified (on_ef 1 None) (command 0x00 0x44 0x00 0x00 [] None) ≡ committed [] (on_ef 1 None) (busy_card) (PutLife 1 0x05)
 unfolding refused_if given and_given descriptor_in descriptors_in file_found held_by arr_found ruling_record may with_file_changed addressed bringing life_file life_in life_changed
 activated_again = refl
 

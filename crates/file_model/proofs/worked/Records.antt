@@ -1,5 +1,6 @@
 -- READ RECORD, UPDATE RECORD, SEARCH RECORD and INCREASE, worked out: the bytes of commands and what they answer.
 use Rattle.std.proofs.Common.{◌≡◌, [], ◌∷◌, Some, None, refl}
+use Rattle.card_state.specs.Changes.{PutRecord, PutNewest}
 use Rattle.card_state.specs.Changing.{with_file_changed}
 use Rattle.file_model.specs.Chains.{refused_if, given, and_given}
 use Rattle.file_model.specs.Files.{descriptor_in, descriptors_in, file_found}
@@ -85,12 +86,12 @@ bytes_are_no_records = refl
 -- ---- UPDATE RECORD
 
 -- 00DC000303000001 answers 9000
-a_new_first_record : record_updated card nothing_verified (on_ef 3 None) (command 0x00 0xDC 0x00 0x03 (0x00 ∷ 0x00 ∷ 0x01 ∷ []) None) ≡ committed [] (on_ef 3 (Some 1)) (with_ring ((0x00 ∷ 0x00 ∷ 0x01 ∷ []) ∷ (0xFF ∷ 0xFF ∷ 0xFF ∷ []) ∷ (0xFF ∷ 0xFF ∷ 0xFF ∷ []) ∷ []))
+a_new_first_record : record_updated card nothing_verified (on_ef 3 None) (command 0x00 0xDC 0x00 0x03 (0x00 ∷ 0x00 ∷ 0x01 ∷ []) None) ≡ committed [] (on_ef 3 (Some 1)) (with_ring ((0x00 ∷ 0x00 ∷ 0x01 ∷ []) ∷ (0xFF ∷ 0xFF ∷ 0xFF ∷ []) ∷ (0xFF ∷ 0xFF ∷ 0xFF ∷ []) ∷ [])) (PutNewest 3 (0x00 ∷ 0x00 ∷ 0x01 ∷ []))
 unfolding refused_if given and_given descriptor_in descriptors_in file_found held_by arr_found ruling_record may with_file_changed addressed record_file record_named number_to_update record_updating record_update_in record_updated
 a_new_first_record = refl
 
 -- 00DC000303000004 answers 9000
-the_oldest_goes : record_updated (with_ring ((0x00 ∷ 0x00 ∷ 0x03 ∷ []) ∷ (0x00 ∷ 0x00 ∷ 0x02 ∷ []) ∷ (0x00 ∷ 0x00 ∷ 0x01 ∷ []) ∷ [])) nothing_verified (on_ef 3 (Some 1)) (command 0x00 0xDC 0x00 0x03 (0x00 ∷ 0x00 ∷ 0x04 ∷ []) None) ≡ committed [] (on_ef 3 (Some 1)) (with_ring ((0x00 ∷ 0x00 ∷ 0x04 ∷ []) ∷ (0x00 ∷ 0x00 ∷ 0x03 ∷ []) ∷ (0x00 ∷ 0x00 ∷ 0x02 ∷ []) ∷ []))
+the_oldest_goes : record_updated (with_ring ((0x00 ∷ 0x00 ∷ 0x03 ∷ []) ∷ (0x00 ∷ 0x00 ∷ 0x02 ∷ []) ∷ (0x00 ∷ 0x00 ∷ 0x01 ∷ []) ∷ [])) nothing_verified (on_ef 3 (Some 1)) (command 0x00 0xDC 0x00 0x03 (0x00 ∷ 0x00 ∷ 0x04 ∷ []) None) ≡ committed [] (on_ef 3 (Some 1)) (with_ring ((0x00 ∷ 0x00 ∷ 0x04 ∷ []) ∷ (0x00 ∷ 0x00 ∷ 0x03 ∷ []) ∷ (0x00 ∷ 0x00 ∷ 0x02 ∷ []) ∷ [])) (PutNewest 3 (0x00 ∷ 0x00 ∷ 0x04 ∷ []))
 unfolding refused_if given and_given descriptor_in descriptors_in file_found held_by arr_found ruling_record may with_file_changed addressed record_file record_named number_to_update record_updating record_update_in record_updated
 the_oldest_goes = refl
 
@@ -100,7 +101,7 @@ unfolding refused_if given and_given descriptor_in descriptors_in file_found hel
 a_ring_takes_no_number = refl
 
 -- 00DC010C0443444546 answers 9000
-a_record_by_number : record_updated card nothing_verified AT_START (command 0x00 0xDC 0x01 0x0C (0x43 ∷ 0x44 ∷ 0x45 ∷ 0x46 ∷ []) None) ≡ committed [] (on_ef 2 None) (with_linear ((0x43 ∷ 0x44 ∷ 0x45 ∷ 0x46 ∷ []) ∷ (0x42 ∷ 0xFF ∷ 0xFF ∷ 0xFF ∷ []) ∷ []))
+a_record_by_number : record_updated card nothing_verified AT_START (command 0x00 0xDC 0x01 0x0C (0x43 ∷ 0x44 ∷ 0x45 ∷ 0x46 ∷ []) None) ≡ committed [] (on_ef 2 None) (with_linear ((0x43 ∷ 0x44 ∷ 0x45 ∷ 0x46 ∷ []) ∷ (0x42 ∷ 0xFF ∷ 0xFF ∷ 0xFF ∷ []) ∷ [])) (PutRecord 2 0 (0x43 ∷ 0x44 ∷ 0x45 ∷ 0x46 ∷ []))
 unfolding refused_if given and_given descriptor_in descriptors_in file_found held_by arr_found ruling_record may with_file_changed addressed record_file record_named number_to_update record_updating record_update_in record_updated
 a_record_by_number = refl
 
@@ -149,7 +150,7 @@ from_no_record_and_longer = refl
 -- ---- INCREASE
 
 -- 8032000003000002 answers 0000060000029000
-the_sum_and_what_was_added : increased (with_ring ((0x00 ∷ 0x00 ∷ 0x04 ∷ []) ∷ (0x00 ∷ 0x00 ∷ 0x03 ∷ []) ∷ (0x00 ∷ 0x00 ∷ 0x02 ∷ []) ∷ [])) nothing_verified (on_ef 3 None) (command 0x80 0x32 0x00 0x00 (0x00 ∷ 0x00 ∷ 0x02 ∷ []) None) ≡ committed (0x00 ∷ 0x00 ∷ 0x06 ∷ 0x00 ∷ 0x00 ∷ 0x02 ∷ []) (on_ef 3 (Some 1)) (with_ring ((0x00 ∷ 0x00 ∷ 0x06 ∷ []) ∷ (0x00 ∷ 0x00 ∷ 0x04 ∷ []) ∷ (0x00 ∷ 0x00 ∷ 0x03 ∷ []) ∷ []))
+the_sum_and_what_was_added : increased (with_ring ((0x00 ∷ 0x00 ∷ 0x04 ∷ []) ∷ (0x00 ∷ 0x00 ∷ 0x03 ∷ []) ∷ (0x00 ∷ 0x00 ∷ 0x02 ∷ []) ∷ [])) nothing_verified (on_ef 3 None) (command 0x80 0x32 0x00 0x00 (0x00 ∷ 0x00 ∷ 0x02 ∷ []) None) ≡ committed (0x00 ∷ 0x00 ∷ 0x06 ∷ 0x00 ∷ 0x00 ∷ 0x02 ∷ []) (on_ef 3 (Some 1)) (with_ring ((0x00 ∷ 0x00 ∷ 0x06 ∷ []) ∷ (0x00 ∷ 0x00 ∷ 0x04 ∷ []) ∷ (0x00 ∷ 0x00 ∷ 0x03 ∷ []) ∷ [])) (PutNewest 3 (0x00 ∷ 0x00 ∷ 0x06 ∷ []))
 unfolding refused_if given and_given descriptor_in descriptors_in file_found held_by arr_found ruling_record may with_file_changed addressed record_file sum_to_write increasing increase_in increased
 the_sum_and_what_was_added = refl
 
@@ -159,7 +160,7 @@ unfolding refused_if given and_given descriptor_in descriptors_in file_found hel
 too_much = refl
 
 -- 80328300010100 answers 000005019000
-by_its_short_identifier : increased (with_ring ((0x00 ∷ 0x00 ∷ 0x04 ∷ []) ∷ (0x00 ∷ 0x00 ∷ 0x03 ∷ []) ∷ (0x00 ∷ 0x00 ∷ 0x02 ∷ []) ∷ [])) nothing_verified AT_START (command 0x80 0x32 0x83 0x00 (0x01 ∷ []) (Some 256)) ≡ committed (0x00 ∷ 0x00 ∷ 0x05 ∷ 0x01 ∷ []) (on_ef 3 (Some 1)) (with_ring ((0x00 ∷ 0x00 ∷ 0x05 ∷ []) ∷ (0x00 ∷ 0x00 ∷ 0x04 ∷ []) ∷ (0x00 ∷ 0x00 ∷ 0x03 ∷ []) ∷ []))
+by_its_short_identifier : increased (with_ring ((0x00 ∷ 0x00 ∷ 0x04 ∷ []) ∷ (0x00 ∷ 0x00 ∷ 0x03 ∷ []) ∷ (0x00 ∷ 0x00 ∷ 0x02 ∷ []) ∷ [])) nothing_verified AT_START (command 0x80 0x32 0x83 0x00 (0x01 ∷ []) (Some 256)) ≡ committed (0x00 ∷ 0x00 ∷ 0x05 ∷ 0x01 ∷ []) (on_ef 3 (Some 1)) (with_ring ((0x00 ∷ 0x00 ∷ 0x05 ∷ []) ∷ (0x00 ∷ 0x00 ∷ 0x04 ∷ []) ∷ (0x00 ∷ 0x00 ∷ 0x03 ∷ []) ∷ [])) (PutNewest 3 (0x00 ∷ 0x00 ∷ 0x05 ∷ []))
 unfolding refused_if given and_given descriptor_in descriptors_in file_found held_by arr_found ruling_record may with_file_changed addressed record_file sum_to_write increasing increase_in increased
 by_its_short_identifier = refl
 

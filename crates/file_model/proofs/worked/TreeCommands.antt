@@ -5,6 +5,7 @@ use Rattle.uicc_types.specs.declared.answers.StatusWord.{StatusWord}
 use Rattle.uicc_types.specs.declared.answers.TheConstants.StatusWord.{WRONG_PARAMETERS, WRONG_LENGTH, SECURITY_NOT_SATISFIED, CONDITIONS_NOT_SATISFIED, WRONG_STRUCTURE, WRONG_DATA, FILE_NOT_FOUND, NO_ROOM, FILE_ALREADY_THERE, DONE}
 use Rattle.apdu_form.specs.Model.{Apdu}
 use Rattle.card_state.specs.declared.shapes.Shape.TheVariants.{Transparent, Cyclic}
+use Rattle.card_state.specs.Changes.{MakeFile, TakeFile, FitFile}
 use Rattle.card_state.specs.Persistent.{Contents, Bytes, Records, File, Persistent}
 use Rattle.card_state.specs.Soundness.{mf}
 use Rattle.access_rules.specs.Objects.{object}
@@ -92,7 +93,7 @@ made = ef 4 0x41 0x6F50 0 3995 4 (Bytes (replicate 4 0xFF))
 
 -- it comes after the last file, and is selected
 it_is_created : created card admin at_mf 0 (create four_bytes)
-    ≡ Ok (record { channels = channels (at_ef 0 4) None; passed = with_files (three ++ made ∷ []) ∷ [] })
+    ≡ Ok (record { channels = channels (at_ef 0 4) None; passed = with_files (three ++ made ∷ []) ∷ []; changes = MakeFile made ∷ [] })
 unfolding created creating refused_if given asked_in new_file_told template object room_at free_number file_found descriptors_in descriptor_in selection_of
 it_is_created = refl
 
@@ -108,12 +109,12 @@ it_is_there_already = refl
 abbrev moved : File
 moved = ef 4 0x41 0x6F50 0 3999 6 (Bytes (replicate 6 0xFF))
 
-it_grows : resized with_made admin at_mf 0 (resize (0x6F ∷ 0x50 ∷ 0x00 ∷ 0x06 ∷ [])) ≡ Ok (record { channels = at_mf; passed = with_files (three ++ moved ∷ []) ∷ [] })
+it_grows : resized with_made admin at_mf 0 (resize (0x6F ∷ 0x50 ∷ 0x00 ∷ 0x06 ∷ [])) ≡ Ok (record { channels = at_mf; passed = with_files (three ++ moved ∷ []) ∷ []; changes = FitFile 4 (Some moved) ∷ [] })
 unfolding resized resizing refused_if given room_at file_found descriptors_in descriptor_in
 it_grows = refl
 
 -- as many as it has: nothing is committed
-it_stays : resized with_made admin at_mf 0 (resize (0x6F ∷ 0x50 ∷ 0x00 ∷ 0x04 ∷ [])) ≡ Ok (record { channels = at_mf; passed = [] })
+it_stays : resized with_made admin at_mf 0 (resize (0x6F ∷ 0x50 ∷ 0x00 ∷ 0x04 ∷ [])) ≡ Ok (record { channels = at_mf; passed = []; changes = [] })
 unfolding resized resizing refused_if given room_at file_found descriptors_in descriptor_in
 it_stays = refl
 
@@ -121,7 +122,7 @@ it_stays = refl
 abbrev shorter : File
 shorter = ef 1 0x41 0x2FE2 2 3968 3 (Bytes (0x98 ∷ 0x10 ∷ 0x10 ∷ []))
 
-it_shrinks : resized card admin (channels (at_ef 0 1) None) 0 (resize (0x2F ∷ 0xE2 ∷ 0x00 ∷ 0x03 ∷ [])) ≡ Ok (record { channels = channels (at_ef 0 1) None; passed = with_files (mf ∷ shorter ∷ linear ∷ cyclic ∷ []) ∷ [] })
+it_shrinks : resized card admin (channels (at_ef 0 1) None) 0 (resize (0x2F ∷ 0xE2 ∷ 0x00 ∷ 0x03 ∷ [])) ≡ Ok (record { channels = channels (at_ef 0 1) None; passed = with_files (mf ∷ shorter ∷ linear ∷ cyclic ∷ []) ∷ []; changes = FitFile 1 (Some shorter) ∷ [] })
 unfolding resized resizing refused_if given room_at file_found descriptors_in descriptor_in
 it_shrinks = refl
 
@@ -130,11 +131,11 @@ abbrev two : ℕ → ℕ → Contents → Persistent
 two place size contents = with_files (mf ∷ ef 1 0x41 0x6F01 0 3975 2 (Bytes (0x01 ∷ 0x02 ∷ [])) ∷ ef 2 0x41 0x6F02 0 place size contents ∷ [])
 
 it_grows_into_a_gap : resized (two 3977 3 (Bytes (0x0A ∷ 0x0B ∷ 0x0C ∷ []))) admin at_mf 0 (resize (0x6F ∷ 0x02 ∷ 0x00 ∷ 0x05 ∷ []))
-    ≡ Ok (record { channels = at_mf; passed = two 3968 5 (Bytes (0x0A ∷ 0x0B ∷ 0x0C ∷ 0xFF ∷ 0xFF ∷ [])) ∷ [] })
+    ≡ Ok (record { channels = at_mf; passed = two 3968 5 (Bytes (0x0A ∷ 0x0B ∷ 0x0C ∷ 0xFF ∷ 0xFF ∷ [])) ∷ []; changes = FitFile 2 (Some (ef 2 0x41 0x6F02 0 3968 5 (Bytes (0x0A ∷ 0x0B ∷ 0x0C ∷ 0xFF ∷ 0xFF ∷ [])))) ∷ [] })
 unfolding resized resizing refused_if given room_at file_found descriptors_in descriptor_in
 it_grows_into_a_gap = refl
 
-it_goes : deleted (with_files (three ++ moved ∷ [])) admin (channels (at_ef 0 4) None) 0 (delete (0x6F ∷ 0x50 ∷ [])) ≡ Ok (record { channels = at_mf; passed = card ∷ [] })
+it_goes : deleted (with_files (three ++ moved ∷ [])) admin (channels (at_ef 0 4) None) 0 (delete (0x6F ∷ 0x50 ∷ [])) ≡ Ok (record { channels = at_mf; passed = card ∷ []; changes = TakeFile 4 ∷ [] })
 unfolding deleted deleting refused_if given file_found descriptors_in descriptor_in
 it_goes = refl
 
@@ -151,11 +152,11 @@ abbrev with_df : Persistent
 with_df = with_files (three ++ df ∷ [])
 
 a_df_is_created : created card admin at_mf 0 (create (0x62 ∷ 0x08 ∷ 0x82 ∷ 0x02 ∷ 0x78 ∷ 0x21 ∷ 0x83 ∷ 0x02 ∷ 0x7F ∷ 0x20 ∷ []))
-    ≡ Ok (record { channels = channels (at_df 4) None; passed = with_df ∷ [] })
+    ≡ Ok (record { channels = channels (at_df 4) None; passed = with_df ∷ []; changes = MakeFile df ∷ [] })
 unfolding created creating refused_if given asked_in new_file_told template object room_at free_number file_found descriptors_in descriptor_in selection_of
 a_df_is_created = refl
 
-a_df_is_deleted : deleted with_df admin at_mf 0 (delete (0x7F ∷ 0x20 ∷ [])) ≡ Ok (record { channels = at_mf; passed = card ∷ [] })
+a_df_is_deleted : deleted with_df admin at_mf 0 (delete (0x7F ∷ 0x20 ∷ [])) ≡ Ok (record { channels = at_mf; passed = card ∷ []; changes = TakeFile 4 ∷ [] })
 unfolding deleted deleting refused_if given file_found descriptors_in descriptor_in
 a_df_is_deleted = refl
 
@@ -300,7 +301,7 @@ unfolding deleted refused_if
 an_identifier_has_two_bytes = refl
 
 -- an EF goes from each channel that has it, and from no other
-it_goes_from_both : deleted with_made admin (channels (at_ef 0 4) (Some (at_ef 0 4))) 1 (delete (0x6F ∷ 0x50 ∷ [])) ≡ Ok (record { channels = channels (at_df 0) (Some (at_df 0)); passed = card ∷ [] })
+it_goes_from_both : deleted with_made admin (channels (at_ef 0 4) (Some (at_ef 0 4))) 1 (delete (0x6F ∷ 0x50 ∷ [])) ≡ Ok (record { channels = channels (at_df 0) (Some (at_df 0)); passed = card ∷ []; changes = TakeFile 4 ∷ [] })
 unfolding deleted deleting refused_if given file_found descriptors_in descriptor_in
 it_goes_from_both = refl
 
@@ -311,6 +312,6 @@ it_goes_from_all = refl
 abbrev read_four : Apdu
 read_four = record { class = 0x00; ins = 0xB0; p1 = 0x00; p2 = 0x00; body = []; expected = Some 4 }
 
-it_is_blank : binary_read with_made admin (at_ef 0 4) read_four ≡ Ok (record { body = replicate 4 0xFF; status = DONE; selection = at_ef 0 4; passed = [] })
+it_is_blank : binary_read with_made admin (at_ef 0 4) read_four ≡ Ok (record { body = replicate 4 0xFF; status = DONE; selection = at_ef 0 4; passed = []; changes = [] })
 unfolding binary_file read_from binary_read reading refused_if given and_given may file_found descriptors_in descriptor_in addressed held_by
 it_is_blank = refl

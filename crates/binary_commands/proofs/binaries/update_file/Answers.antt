@@ -11,6 +11,10 @@ use Rattle.file_model.specs.Binaries.{offset_of}
 use Rattle.binary_commands.proofs.GivesLemmas.{left_by}
 use Rattle.binary_commands.proofs.UpdateInLemmas.{update_changes, update_passes}
 use Rattle.binary_commands.proofs.binaries.update_file.Goals as goal
+use Rattle.card_state.specs.Changes.{PutBytes}
+use Rattle.card_commits.specs.Writing.{written}
+use Rattle.card_commits.proofs.WritesAllLemmas.{put_after, put_or_not}
+use Rattle.binary_commands.proofs.WritesLemmas.{puts_stopped, puts_nothing}
 
 pub returns-in_err-write_bytes-clause-passes : goal.returns-in_err-write_bytes-clause-passes
 returns-in_err-write_bytes-clause-passes g c =
@@ -32,3 +36,19 @@ returns-in_err-write_bytes-clause-passes g c =
           let granted : true ≡ may state UpdateBinary c.args.seen.now c.args.file.now = sym c.if-not-branch.false ∙ if_some_at before _ state c.in_ok-is_allowed.ensures.value is in
           absurd (update_changes state c.args.seen.now c.args.selection.now c.args.command.now c.args.file.now granted near none));
     }
+
+pub returns-in_err-is_allowed-clause-puts : goal.returns-in_err-is_allowed-clause-puts
+returns-in_err-is_allowed-clause-puts g c = puts_nothing c.from_residual.result _ _ _ c.from_residual.ensures.0 c.in_err-is_allowed.ensures.reads.stable
+
+pub returns-in_err-write_bytes-clause-puts : goal.returns-in_err-write_bytes-clause-puts
+returns-in_err-write_bytes-clause-puts g c =
+    puts_stopped c.from_residual-in_err-write_bytes.result _ _ _ c.from_residual-in_err-write_bytes.ensures.0
+    (if_some (held_by g.S.Store c.args.store.now) _ (λ state is.
+    put_or_not (PutBytes c.args.file.now.number (offset_of c.args.command.now) c.args.command.now.body) _ _ _ c.is_allowed.ensures.reads.stable
+    (rw (sym c.offset_in-offset.ensures, sym c.command.view_is) c.in_err-write_bytes.ensures.writes.whole)))
+
+pub returns-clause-puts : goal.returns-clause-puts
+returns-clause-puts g c =
+    if_some (held_by g.S.Store c.args.store.now) _ (λ state is.
+    put_after (PutBytes c.args.file.now.number (offset_of c.args.command.now) c.args.command.now.body) _ _ _ c.is_allowed.ensures.reads.stable
+    (rw (sym c.offset_in-offset.ensures, sym c.command.view_is) c.in_ok-write_bytes.ensures.writes.ok))

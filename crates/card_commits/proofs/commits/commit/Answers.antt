@@ -28,4 +28,5 @@ returns g c = record {
       cause = c.commit.ensures.cause;
     };
   };
+  pieces = record { ok = c.commit.ensures.writes.ok; whole = c.commit.ensures.writes.whole };
 }

@@ -6,6 +6,10 @@ use Rattle.card_commits.proofs.EntriesLemmas.{number_low, ef_there}
 use Rattle.card_commits.proofs.HasRecordLemmas.{one_usable, node_usable, life_long, life_commit}
 use Rattle.card_commits.proofs.DescriptorsOfLemmas.{life_told}
 use Rattle.card_commits.proofs.files.write_life.Goals as goal
+use Rattle.std.proofs.Common.{refl}
+use Rattle.card_state.specs.Changes.{PutLife}
+use Rattle.card_commits.specs.Writing.{prepared_for}
+use Rattle.card_commits.proofs.WritingLemmas.{writes, handed_on, life_pieces}
 
 pub node_piece-requires-clause-entry : goal.node_piece-requires-clause-entry
 node_piece-requires-clause-entry g c = number_low c.cards_are_known.ensures.files _ _ c.args.loaded.now c.requires.mounted.agrees c.args.number c.node_of.result c.node_of.ensures.there
@@ -25,3 +29,13 @@ returns-clause-committed g c =
 
 pub returns-clause-files : goal.returns-clause-files
 returns-clause-files g c = rw c.from.ensures (life_told c.args.loaded.now c.args.number c.args.life c.node_of.result c.node_of.ensures.there (ef_there c.files_are_found.ensures.number c.args.loaded.now c.args.number c.node_of.result c.node_of.ensures.there c.requires.file))
+
+pub returns-in_err-commit-clause-writes : goal.returns-in_err-commit-clause-writes
+unfolding prepared_for
+returns-in_err-commit-clause-writes g c =
+    handed_on _ _ (PutLife c.args.number c.args.life) _ c.from_residual.result c.from_residual.ensures.0
+    (writes _ _ _ _ c.args.loaded.now _ (PutLife c.args.number c.args.life) c.requires.mounted.agrees (life_pieces c.args.loaded.now c.args.number c.args.life c.node_of.result _ c.node_of.ensures.value c.node_piece.ensures) (λ content. refl) c.in_err-commit.ensures.pieces)
+
+pub returns-clause-writes : goal.returns-clause-writes
+unfolding prepared_for
+returns-clause-writes g c = record { ok = (writes _ _ _ _ c.args.loaded.now _ (PutLife c.args.number c.args.life) c.requires.mounted.agrees (life_pieces c.args.loaded.now c.args.number c.args.life c.node_of.result _ c.node_of.ensures.value c.node_piece.ensures) (λ content. refl) c.in_ok-commit.ensures.pieces).ok; whole = tt }

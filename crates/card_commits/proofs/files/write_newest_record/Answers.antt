@@ -10,6 +10,9 @@ use Rattle.card_commits.proofs.HasRecordLemmas.{ring_lies, record_usable, record
 use Rattle.card_commits.proofs.EntriesLemmas.{number_low}
 use Rattle.card_commits.proofs.DescriptorsOfLemmas.{head_untold}
 use Rattle.card_commits.proofs.files.write_newest_record.Goals as goal
+use Rattle.card_state.specs.Changes.{PutNewest}
+use Rattle.card_commits.specs.Writing.{prepared_for}
+use Rattle.card_commits.proofs.WritingLemmas.{writes, handed_on, newest_pieces}
 
 pub with_head_moved-node-requires-clause-width : goal.with_head_moved-node-requires-clause-width
 with_head_moved-node-requires-clause-width g c = (ring_lies c.files_are_found.ensures.number c.cards_are_known.ensures.files c.standing_files_hold.ensures.records _ _ c.args.loaded.now c.requires.mounted.agrees c.args.number c.node_of.result c.node_of.ensures.there (length c.args.bytes.now) c.requires.file).have.full.width
@@ -65,3 +68,13 @@ returns-clause-committed g c =
 
 pub returns-clause-files : goal.returns-clause-files
 returns-clause-files g c = rw (c.from-3.ensures, c.with_head_moved-node.ensures) (head_untold c.args.loaded.now c.args.number c.node_of.result c.node_of.ensures.there)
+
+pub returns-in_err-commit-clause-writes : goal.returns-in_err-commit-clause-writes
+unfolding prepared_for
+returns-in_err-commit-clause-writes g c =
+    handed_on _ _ (PutNewest c.args.number c.args.bytes.now) _ c.from_residual.result c.from_residual.ensures.0
+    (writes _ _ _ _ c.args.loaded.now _ (PutNewest c.args.number c.args.bytes.now) c.requires.mounted.agrees (newest_pieces c.args.loaded.now c.args.number _ c.args.bytes.now c.node_of.result c.with_head_moved-node.result _ c.node_of.ensures.value c.with_head_moved-node.ensures (rw (c.from.ensures, c.from-2.ensures) refl) c.newest_pieces.ensures) (λ content. refl) c.in_err-commit.ensures.pieces)
+
+pub returns-clause-writes : goal.returns-clause-writes
+unfolding prepared_for
+returns-clause-writes g c = record { ok = (writes _ _ _ _ c.args.loaded.now _ (PutNewest c.args.number c.args.bytes.now) c.requires.mounted.agrees (newest_pieces c.args.loaded.now c.args.number _ c.args.bytes.now c.node_of.result c.with_head_moved-node.result _ c.node_of.ensures.value c.with_head_moved-node.ensures (rw (c.from.ensures, c.from-2.ensures) refl) c.newest_pieces.ensures) (λ content. refl) c.in_ok-commit.ensures.pieces).ok; whole = tt }

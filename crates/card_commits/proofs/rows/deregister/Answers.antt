@@ -2,6 +2,7 @@ use Rattle.std.proofs.Common.{[], ◌∷◌, List, ℕ, filter, not, ◌==◌, a
 use Rattle.std.proofs.lemmas.Result.{on_ok_weaker}
 use Rattle.card_state.specs.declared.entries.Row.{Row}
 use Rattle.card_state.specs.Changing.{without_code_committed}
+use Rattle.card_state.specs.Kinds.{codes_of}
 use Rattle.card_state.specs.States.{registration_of, rows_of}
 use Rattle.card_state.specs.Persistent.{Registration}
 use Rattle.layout_entries.specs.Spelling.{row_part}
@@ -33,3 +34,11 @@ returns-clause-rows g c =
     (ap (λ (codes : List ℕ). let new : Registration = record (registration_of c.args.shelf.0 c.row_of.result.now) { codes = codes } in new) c.without_event-events.ensures.value)))
     ∙ changed_rows c.cards_are_known.ensures.table _ _ c.args.loaded.now (λ r. record r { codes = filter (λ other. not (other == c.args.code)) r.codes }) c.args.shelf.0 c.requires.mounted.agrees)
     c.replace_events.ensures.table
+
+pub returns-clause-writes : goal.returns-clause-writes
+returns-clause-writes g c = record {
+  events = c.without_event-events.result;
+  low = omega (arith, c.without_event-events.ensures.low, (c.cards_are_known.ensures.rows _ _ c.args.loaded.now _ c.args.shelf.0 c.row_of.result.now c.requires.mounted.agrees.stands c.row_of.ensures.there).events);
+  told = c.without_event-events.ensures.value ∙ ap (λ (r : Row). filter (λ other. not (other == c.args.code)) (codes_of r.events)) c.row_of.ensures.value;
+  written_so = c.replace_events.ensures.writes;
+}

@@ -39,3 +39,11 @@ returns-clause-rows g c =
     (ap (λ (codes : List ℕ). let new : Registration = record (registration_of c.args.shelf.0 c.row_of.result.now) { codes = codes } in new) c.with_event-events.ensures.value)))
     ∙ changed_rows c.cards_are_known.ensures.table _ _ c.args.loaded.now (λ r. record r { codes = sorted_codes (c.args.code ∷ r.codes) }) c.args.shelf.0 c.requires.mounted.agrees)
     c.replace_events.ensures.table
+
+pub returns-clause-writes : goal.returns-clause-writes
+returns-clause-writes g c = record {
+  events = c.with_event-events.result;
+  low = omega (arith, c.with_event-events.ensures.low (c.cards_are_known.ensures.rows _ _ c.args.loaded.now _ c.args.shelf.0 c.row_of.result.now c.requires.mounted.agrees.stands c.row_of.ensures.there).events);
+  told = c.with_event-events.ensures.value ∙ ap (λ (r : Row). sorted_codes (c.args.code ∷ codes_of r.events)) c.row_of.ensures.value;
+  written_so = c.replace_events.ensures.writes;
+}

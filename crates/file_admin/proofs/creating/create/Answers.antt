@@ -1,10 +1,17 @@
 use Rattle.std.proofs.Common.{◌≡◌, false, refl, sym, subst, ℕ, IsTrue, IsSomeAnd}
 use Rattle.file_model.specs.declared.descriptors.Wanted.TheVariants.{Number}
 use Rattle.file_model.specs.Files.{descriptors_of, file_found, is_df}
-use Rattle.file_model.specs.Creating.{is_there, created_if_room}
+use Rattle.file_model.specs.Creating.{file_made, is_there, created_if_room}
 use Rattle.file_admin.proofs.AnswersTreeLemmas.{refused, not_still, carried_out, stopped}
-use Rattle.file_admin.proofs.CreatingLemmas.{full, change, passes_one, beside, written, done_answers}
+use Rattle.file_admin.proofs.CreatingLemmas.{full, change, named, passes_one, makes_one, beside, written, done_answers}
 use Rattle.file_admin.proofs.creating.create.Goals as goal
+use Rattle.std.proofs.Common.{[], ◌∷◌, Ok, Err, Result}
+use Rattle.uicc_types.specs.declared.answers.StatusWord.{StatusWord}
+use Rattle.uicc_types.specs.declared.answers.TheConstants.StatusWord.{DONE, NO_ROOM}
+use Rattle.store_form.specs.declared.store.StoreFault.{StoreFault}
+use Rattle.card_state.specs.Changes.{MakeFile}
+use Rattle.file_admin.proofs.WritesOverLemmas.{made_writes, made_stops, tree_makes, tree_refused}
+use Rattle.card_state.specs.Memory.{memory}
 
 pub add_file-requires-clause-free : goal.add_file-requires-clause-free
 add_file-requires-clause-free g c =
@@ -35,3 +42,16 @@ returns-in-Err-clause-still g c = not_still c.cards_are_known.ensures.table c.st
 
 pub returns-in-None-clause-done : goal.returns-in-None-clause-done
 returns-in-None-clause-done g c = refused c.cards_are_known.ensures.table c.stores_stand.ensures.known _ c.requires.mounted c.args.channels.now (λ state. created_if_room state c.args.channels.now c.args.channel c.args.file.now) _ (full c.cards_are_known.ensures.card c.cards_are_known.ensures.table c.files_are_found.ensures.told c.args.loaded.now c.args.channels.now c.args.channel c.df_on-df.result c.df_on-df.ensures c.args.file.now c.new_entry.result c.new_entry.ensures.made c.in-None.is)
+
+pub returns-in-Ok-clause-writes : goal.returns-in-Ok-clause-writes
+returns-in-Ok-clause-writes g c =
+    tree_makes c.cards_are_known.ensures.table c.stores_stand.ensures.known _ c.requires.mounted c.args.channels.now (λ state. created_if_room state c.args.channels.now c.args.channel c.args.file.now) (λ state. MakeFile (file_made c.in-Some.entry.number c.df_on-df.result c.in-Some.entry.node.place c.args.file.now) ∷ []) (makes_one c.cards_are_known.ensures.card c.cards_are_known.ensures.table c.files_are_found.ensures.told c.args.loaded.now c.args.channels.now c.args.channel c.df_on-df.result c.df_on-df.ensures c.args.file.now c.new_entry.result c.new_entry.ensures.made c.in-Some.entry c.in-Some.is) (let done : Result StatusWord StoreFault = Ok DONE in done) (memory g.S.Store c.add_file.new.store c.add_file.new.loaded)
+    (made_writes c.in-Some.entry.number c.df_on-df.result c.in-Some.entry.node.place c.args.file.now c.requires.may c.in-Some.entry.node c.in-Some.ensures.node (named c.cards_are_known.ensures.card c.cards_are_known.ensures.table c.files_are_found.ensures.told c.args.loaded.now c.args.channels.now c.args.channel c.df_on-df.result c.df_on-df.ensures c.args.file.now c.new_entry.result c.new_entry.ensures.made c.in-Some.entry c.in-Some.is) c.in-Ok.field-0 DONE _ _ c.in-Ok.ensures.writes)
+
+pub returns-in-Err-clause-writes : goal.returns-in-Err-clause-writes
+returns-in-Err-clause-writes g c =
+    tree_makes c.cards_are_known.ensures.table c.stores_stand.ensures.known _ c.requires.mounted c.args.channels.now (λ state. created_if_room state c.args.channels.now c.args.channel c.args.file.now) (λ state. MakeFile (file_made c.in-Some.entry.number c.df_on-df.result c.in-Some.entry.node.place c.args.file.now) ∷ []) (makes_one c.cards_are_known.ensures.card c.cards_are_known.ensures.table c.files_are_found.ensures.told c.args.loaded.now c.args.channels.now c.args.channel c.df_on-df.result c.df_on-df.ensures c.args.file.now c.new_entry.result c.new_entry.ensures.made c.in-Some.entry c.in-Some.is) (let ended : Result StatusWord StoreFault = Err c.in-Err.fault in ended) _
+    (made_stops c.in-Some.entry.number c.df_on-df.result c.in-Some.entry.node.place c.args.file.now c.requires.may c.in-Some.entry.node c.in-Some.ensures.node (named c.cards_are_known.ensures.card c.cards_are_known.ensures.table c.files_are_found.ensures.told c.args.loaded.now c.args.channels.now c.args.channel c.df_on-df.result c.df_on-df.ensures c.args.file.now c.new_entry.result c.new_entry.ensures.made c.in-Some.entry c.in-Some.is) c.in-Err.fault _ _ c.in-Err.ensures.writes)
+
+pub returns-in-None-clause-writes : goal.returns-in-None-clause-writes
+returns-in-None-clause-writes g c = tree_refused c.cards_are_known.ensures.table c.stores_stand.ensures.known _ c.requires.mounted c.args.channels.now (λ state. created_if_room state c.args.channels.now c.args.channel c.args.file.now) NO_ROOM (full c.cards_are_known.ensures.card c.cards_are_known.ensures.table c.files_are_found.ensures.told c.args.loaded.now c.args.channels.now c.args.channel c.df_on-df.result c.df_on-df.ensures c.args.file.now c.new_entry.result c.new_entry.ensures.made c.in-None.is)

@@ -4,6 +4,7 @@ use Rattle.file_model.specs.Deleting.{deleting, deleted}
 use Rattle.file_admin.proofs.AnswersTreeLemmas.{refused, alike, still_alike}
 use Rattle.file_admin.proofs.StandsLemmas.{listed}
 use Rattle.file_admin.proofs.deleting.try_delete.Goals as goal
+use Rattle.file_admin.proofs.ChangesByLemmas.{writes_comes, writes_refused}
 
 pub returns-in-Ok-clause-done : goal.returns-in-Ok-clause-done
 returns-in-Ok-clause-done g c =
@@ -23,4 +24,18 @@ pub returns-in-Err-clause-done : goal.returns-in-Err-clause-done
 returns-in-Err-clause-done g c =
     let same_channel : c.channel-channel.result ≡ channel_of c.args.command.now.class = c.channel-channel.ensures in
     refused c.cards_are_known.ensures.table c.stores_stand.ensures.known _ c.requires.mounted c.args.channels.now (λ state. deleted state c.args.seen.now c.args.channels.now (channel_of c.args.command.now.class) c.args.command.now) c.in-Err.status
+    (λ mark content state stands. sym (λ i. deleted state c.args.seen.now c.args.channels.now (same_channel i) c.args.command.now) ∙ c.in-Err.ensures.refused state (listed c.cards_are_known.ensures.card c.cards_are_known.ensures.table mark content c.args.loaded.now state stands c.files_are_found.ensures.told))
+
+pub returns-in-Ok-clause-writes : goal.returns-in-Ok-clause-writes
+unfolding deleting
+returns-in-Ok-clause-writes g c =
+    let same_channel : c.channel-channel.result ≡ channel_of c.args.command.now.class = c.channel-channel.ensures in
+    writes_comes c.cards_are_known.ensures.table c.stores_stand.ensures.known _ c.requires.mounted c.args.channels.now (λ state. deleted state c.args.seen.now c.args.channels.now (channel_of c.args.command.now.class) c.args.command.now) (λ state. Ok (deleting state c.args.channels.now c.in-Ok.file))
+    (λ mark content state stands. sym (λ i. deleted state c.args.seen.now c.args.channels.now (same_channel i) c.args.command.now) ∙ c.in-Ok.ensures.found state (listed c.cards_are_known.ensures.card c.cards_are_known.ensures.table mark content c.args.loaded.now state stands c.files_are_found.ensures.told))
+    c.delete.result _ c.delete.ensures.writes
+
+pub returns-in-Err-clause-writes : goal.returns-in-Err-clause-writes
+returns-in-Err-clause-writes g c =
+    let same_channel : c.channel-channel.result ≡ channel_of c.args.command.now.class = c.channel-channel.ensures in
+    writes_refused c.cards_are_known.ensures.table c.stores_stand.ensures.known _ c.requires.mounted c.args.channels.now (λ state. deleted state c.args.seen.now c.args.channels.now (channel_of c.args.command.now.class) c.args.command.now) c.in-Err.status
     (λ mark content state stands. sym (λ i. deleted state c.args.seen.now c.args.channels.now (same_channel i) c.args.command.now) ∙ c.in-Err.ensures.refused state (listed c.cards_are_known.ensures.card c.cards_are_known.ensures.table mark content c.args.loaded.now state stands c.files_are_found.ensures.told))

@@ -4,7 +4,7 @@ use Rattle.std.proofs.lemmas.Bool.{eqb-false}
 use Rattle.std.proofs.lemmas.Option.{slice_get-get_or}
 use Rattle.card_state.specs.declared.entries.PinSlot.{PinSlot}
 use Rattle.card_state.specs.States.{pin_state}
-use Rattle.pin_rules.proofs.PinFoundLemmas.{is_key, no_slot, pin_in_slots, found_at, found_nowhere, place_low, has_key}
+use Rattle.pin_rules.proofs.PinFoundLemmas.{is_key, no_slot, pin_in_slots, found_at, found_nowhere, place_low, has_key, its_key}
 use Rattle.pin_rules.proofs.slots.find_pin.Goals as goal
 
 pub overflow_cast-result : goal.overflow_cast-result
@@ -40,3 +40,9 @@ pub returns-in-None-clause-value : goal.returns-in-None-clause-value
 returns-in-None-clause-value c =
     sym (pin_in_slots c.args.loaded.now c.args.key ∙ ap (λ (pins : List PinSlot). option_map pin_state (find (is_key c.args.key) pins)) (sym c.all_pins-pins.ensures.value)
     ∙ ap (option_map pin_state) (found_nowhere (is_key c.args.key) c.all_pins-pins.result.now (sym c.slot_of.ensures ∙ c.in-None.is)))
+
+pub returns-in-Some-clause-key : goal.returns-in-Some-clause-key
+returns-in-Some-clause-key c =
+    let is = sym c.slot_of.ensures ∙ c.in-Some.is in
+    let found = found_at (is_key c.args.key) c.all_pins-pins.result.now c.in-Some.slot no_slot is in
+    its_key c.args.key c.all_pins-pins.result.now (get_or c.all_pins-pins.result.now c.in-Some.slot no_slot) found

@@ -13,6 +13,9 @@ use Rattle.record_commands.proofs.SettledFileLemmas.{one_passes, one_changes, re
 use Rattle.record_commands.proofs.increasing.increase_file.Given.{Over}
 use Rattle.record_commands.proofs.increasing.increase_file.Goals.{In-Ok}
 use Rattle.record_commands.proofs.increasing.increase_file.Goals as goal
+use Rattle.card_state.specs.Changes.{PutNewest}
+use Rattle.card_commits.proofs.WritesAllLemmas.{put_after, put_or_not}
+use Rattle.binary_commands.proofs.WritesLemmas.{puts_stopped, puts_nothing}
 
 passed : (g : Over) (c : In-Ok g) (state : Persistent) → held_by g.S.Store c.args.store.now ≡ Some state
     → (settled_file c.args.selection.now (increase_in state c.args.seen.now c.args.selection.now c.args.command.now c.args.file.now)).passed ≡ with_newest_record c.args.file.now.number c.in-Ok.sum state ∷ []
@@ -41,3 +44,26 @@ pub returns-in_ok-write_first-in-Ok-clause-passes : goal.returns-in_ok-write_fir
 returns-in_ok-write_first-in-Ok-clause-passes g c =
     let one = passed g (goal.at.returns-in_ok-write_first-in-Ok-clause-passes g c).In-Ok in
     record { stopped = tt; still = if_some (held_by g.S.Store c.args.store.now) _ (λ state is none. absurd (one_changes _ _ (one state is) none)) }
+
+-- the sum is that of the clause
+summed : (g : Over) (c : In-Ok g) (state : Persistent) → held_by g.S.Store c.args.store.now ≡ Some state → sum_to_write state c.args.command.now c.args.file.now ≡ Ok c.in-Ok.sum
+summed g c state is = sym (if_some_at (held_by g.S.Store c.is_allowed.new.store) _ state c.in_ok-sum.ensures.value (reads_held _ _ _ c.is_allowed.ensures.reads ∙ is)) ∙ c.in-Ok.is
+
+pub returns-in_err-is_allowed-clause-puts : goal.returns-in_err-is_allowed-clause-puts
+returns-in_err-is_allowed-clause-puts g c = puts_nothing c.from_residual.result _ _ _ c.from_residual.ensures.0 c.in_err-is_allowed.ensures.reads.stable
+
+pub returns-in_err-sum-clause-puts : goal.returns-in_err-sum-clause-puts
+returns-in_err-sum-clause-puts g c = puts_nothing c.from_residual-in_err-sum.result _ _ _ c.from_residual-in_err-sum.ensures.0 (c.in_err-sum.ensures.reads.stable ∙ c.is_allowed.ensures.reads.stable)
+
+pub returns-in_err-write_first-in-Ok-clause-puts : goal.returns-in_err-write_first-in-Ok-clause-puts
+returns-in_err-write_first-in-Ok-clause-puts g c =
+    puts_stopped c.from_residual-in_err-write_first-in-Ok.result _ _ _ c.from_residual-in_err-write_first-in-Ok.ensures.0
+    (if_some (held_by g.S.Store c.args.store.now) _ (λ state is. rw (summed g (goal.at.returns-in_err-write_first-in-Ok-clause-puts g c).In-Ok state is)
+    (put_or_not (PutNewest c.args.file.now.number c.in-Ok.sum) _ _ _ (c.sum_to_write.ensures.reads.stable ∙ c.is_allowed.ensures.reads.stable)
+    (rw (sym c.as_slice.ensures.value) c.in_err-write_first-in-Ok.ensures.writes.whole))))
+
+pub returns-in_ok-write_first-in-Ok-clause-puts : goal.returns-in_ok-write_first-in-Ok-clause-puts
+returns-in_ok-write_first-in-Ok-clause-puts g c =
+    if_some (held_by g.S.Store c.args.store.now) _ (λ state is. rw (summed g (goal.at.returns-in_ok-write_first-in-Ok-clause-puts g c).In-Ok state is)
+    (put_after (PutNewest c.args.file.now.number c.in-Ok.sum) _ _ _ (c.sum_to_write.ensures.reads.stable ∙ c.is_allowed.ensures.reads.stable)
+    (rw (sym c.as_slice.ensures.value) c.in_ok-write_first-in-Ok.ensures.writes.ok)))

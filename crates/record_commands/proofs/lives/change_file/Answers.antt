@@ -12,6 +12,10 @@ use Rattle.binary_commands.proofs.GivesLemmas.{left_by}
 use Rattle.record_commands.proofs.KeepsSelectionsLemmas.{told_keeps}
 use Rattle.record_commands.proofs.SettledFileLemmas.{one_passes, one_changes, reads_held, life_passed}
 use Rattle.record_commands.proofs.lives.change_file.Goals as goal
+use Rattle.std.proofs.Common.{eq-eqb}
+use Rattle.card_state.specs.Changes.{PutLife}
+use Rattle.card_commits.proofs.WritesAllLemmas.{none_written, put_after, put_or_not}
+use Rattle.binary_commands.proofs.WritesLemmas.{puts_stopped, puts_nothing}
 
 pub returns-in_err-write_life-clause-passes : goal.returns-in_err-write_life-clause-passes
 returns-in_err-write_life-clause-passes g c =
@@ -41,3 +45,22 @@ returns-clause-ends g c = record {
   table = tt;
   keeps = search rules;
 }
+
+pub returns-in_err-is_allowed-clause-puts : goal.returns-in_err-is_allowed-clause-puts
+returns-in_err-is_allowed-clause-puts g c = puts_nothing c.from_residual.result _ _ _ c.from_residual.ensures.0 c.in_err-is_allowed.ensures.reads.stable
+
+pub returns-in_err-write_life-clause-puts : goal.returns-in_err-write_life-clause-puts
+returns-in_err-write_life-clause-puts g c =
+    puts_stopped c.from_residual-in_err-write_life.result _ _ _ c.from_residual-in_err-write_life.ensures.0
+    (if_some (held_by g.S.Store c.args.store.now) _ (λ state is. rw (ne_eqb c.args.file.now.life c.args.change.life c.if-file-change.false)
+    (put_or_not (PutLife c.args.file.now.number c.args.change.life) _ _ _ c.is_allowed.ensures.reads.stable c.in_err-write_life.ensures.writes.whole)))
+
+pub returns-clause-puts : goal.returns-clause-puts
+returns-clause-puts g c =
+    if_some (held_by g.S.Store c.args.store.now) _ (λ state is. rw (ne_eqb c.args.file.now.life c.args.change.life c.if-file-change.false)
+    (put_after (PutLife c.args.file.now.number c.args.change.life) _ _ _ c.is_allowed.ensures.reads.stable c.in_ok-write_life.ensures.writes.ok))
+
+pub returns-then-file-change-clause-puts : goal.returns-then-file-change-clause-puts
+returns-then-file-change-clause-puts g c =
+    if_some (held_by g.S.Store c.args.store.now) _ (λ state is. rw (eq-eqb c.args.file.now.life c.args.change.life c.if-file-change.true)
+    (c.is_allowed.ensures.reads.stable ∙ none_written (g.S.Store.stable c.args.store.now)))

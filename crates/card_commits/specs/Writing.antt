@@ -1,0 +1,142 @@
+-- Which bytes of a card's memory a change writes.
+use Rattle.std.specs.Prelude.{◌≡◌, ◌⊎◌, ℕ, ◌+◌, ◌*◌, ◌^◌, ◌<◌, nat_lt, if◌then◌else◌, true, false, List, [], ◌∷◌, length, Option, Some, None, option_map, Result, OnOk, OnErr}
+use Rattle.store_form.specs.declared.store.StoreFault.{StoreFault}
+use Rattle.store_form.specs.Pieces.{Piece, applied}
+use Rattle.card_state.specs.declared.entries.Node.{Node}
+use Rattle.card_state.specs.declared.entries.PinSlot.{PinSlot}
+use Rattle.card_state.specs.declared.entries.Loaded.{Loaded}
+use Rattle.card_state.specs.Blank.{unused_node}
+use Rattle.card_state.specs.Changes.{PinFields, OfTries, OfUnblockTries, OfValue, OfEnabling, OfUnblocking, Change, PutBytes, PutRecord, PutNewest, PutLife, PutPin, MakeFile, TakeFile, FitFile, AddRow, TakeRow, PutEvents, PutKept}
+use Rattle.card_state.specs.Decoding.{table_of}
+use Rattle.card_state.specs.Kinds.{codes_of}
+use Rattle.card_state.specs.Memory.{Memory}
+use Rattle.card_state.specs.Persistent.{Contents, Records, Rule, File, Pin}
+use Rattle.card_state.specs.Soundness.{slot_of_key}
+use Rattle.file_model.specs.Files.{node_at}
+use Rattle.file_model.specs.Pins.{pin_found}
+use Rattle.layout_entries.specs.Spelling.{node_part, pin_part, row_part, sequence_part}
+use Rattle.layout_laws.specs.ChangeLaws.{kept_pieces}
+use Rattle.card_commits.specs.Entries.{row_at, with_head_moved}
+use Rattle.card_commits.specs.Prepared.{filled, moved}
+
+-- ---- entries
+
+-- the first of the bytes of a PIN's slot that are set, and the one after the last: enabled is byte 1, the tries are 2 and 3, the value 4 to 11
+abbrev pub span_set : PinFields → ℕ × ℕ
+span_set OfTries = (2, 3)
+span_set OfUnblockTries = (3, 4)
+span_set OfValue = (2, 12)
+span_set OfEnabling = (1, 3)
+span_set OfUnblocking = (1, 12)
+
+-- the slot of a PIN
+abbrev pub slot_with : Pin → PinSlot
+slot_with pin = record {
+  key = pin.key;
+  enabled = pin.is_enabled;
+  tries = pin.tries;
+  unblock_tries = pin.unblock_tries;
+  value = record { 0 = pin.value };
+  unblock = record { 0 = pin.unblock };
+}
+
+-- the length of a record
+abbrev pub record_width : Contents → ℕ
+record_width (Records (bytes ∷ records)) = length bytes
+record_width _ = 0
+
+-- the entry of a new file, with its rule or without
+abbrev pub entry_ruled : Option Rule → Node → Node
+entry_ruled None node = node
+entry_ruled (Some rule) node = record node { rule = rule.number; arr = record { 0 = rule.arr } }
+
+abbrev pub entry_with : File → Node
+entry_with file = entry_ruled file.rule (record unused_node {
+  used = true;
+  kind = file.kind;
+  id = record { 0 = file.id };
+  parent = file.parent;
+  short = file.short;
+  life = file.life;
+  place = file.place;
+  size = file.size;
+  length = record_width file.contents;
+})
+
+-- ---- what a change writes
+
+-- of a PIN that is there, its fields in the slot of its key
+abbrev pub pin_pieces : PinFields → Option Pin → List Piece
+pin_pieces fields None = []
+pin_pieces fields (Some pin) = pin_part (slot_of_key pin.key) (slot_with pin) (span_set fields).0 (span_set fields).1 ∷ []
+
+-- of a file that grows, its place and its size; of another its size alone
+abbrev pub fit_pieces : ℕ → Node → Option File → List Piece
+fit_pieces number node None = []
+fit_pieces number node (Some file) =
+    let new : Node = record node { place = file.place; size = file.size } in
+    (if nat_lt node.size file.size then node_part number new 10 14 else node_part number new 12 14) ∷ []
+
+-- The pieces that the commit of a change writes, in order, each bytes with their place, in a memory with this table: nothing but what a
+-- person would name. Bytes, and a record of a linear file, are one piece; a new record 1 takes the oldest one's place, and then its file's
+-- head is written. Of entries there are written the life cycle status; of a PIN the bytes from the first to the last field that is set; of a
+-- new file all 16; of one that goes the byte that says it is used; of one that gets another size the size, with the place before it where
+-- it grows. A new row is 51 bytes, the next sequence number, and the kept bytes that stand apart; one that goes, the byte that says it is
+-- used; then its events, or the kept bytes with their length before them.
+unfoldable pub pieces_of : Loaded → Change → List Piece
+pieces_of table (PutBytes number offset bytes) = record { place = (node_at table number).place + offset; bytes = bytes } ∷ []
+pieces_of table (PutRecord number index bytes) = record { place = (node_at table number).place + index * (node_at table number).length; bytes = bytes } ∷ []
+pieces_of table (PutNewest number bytes) =
+    let node : Node = with_head_moved (node_at table number) in
+    record { place = node.place + node.head * node.length; bytes = bytes } ∷ node_part number node 15 16 ∷ []
+pieces_of table (PutLife number life) = node_part number (record (node_at table number) { life = life }) 6 7 ∷ []
+pieces_of table (PutPin fields key pins) = pin_pieces fields (pin_found pins key)
+pieces_of table (MakeFile file) = node_part file.number (entry_with file) 0 16 ∷ []
+pieces_of table (TakeFile number) = node_part number (record (node_at table number) { used = false }) 0 1 ∷ []
+pieces_of table (FitFile number file) = fit_pieces number (node_at table number) file
+pieces_of table (AddRow shelf row) = row_part shelf row 0 51 ∷ sequence_part (table.next + 1) ∷ kept_pieces shelf row
+pieces_of table (TakeRow shelf) = row_part shelf (record (row_at table shelf) { used = false }) 0 1 ∷ []
+pieces_of table (PutEvents shelf events) = row_part shelf (record (row_at table shelf) { events = events }) 5 7 ∷ []
+pieces_of table (PutKept shelf kept) = row_part shelf (record (row_at table shelf) { kept = kept }) 18 (19 + length kept) ∷ []
+
+-- a file that grows is copied to its new place, with FF after its bytes
+abbrev pub moved_if : Node → Option File → List ℕ → List ℕ
+moved_if node None content = content
+moved_if node (Some file) content = if nat_lt node.size file.size then moved node file.place file.size content else content
+
+-- the bytes before the commit of a change: a new file's are FF, and those of a file that grows stand at its new place; nothing else is prepared
+unfoldable pub prepared_for : Change → List ℕ → List ℕ
+prepared_for (MakeFile file) content = filled file.place file.size content
+prepared_for (FitFile number file) content = moved_if (node_at (table_of content) number) file content
+prepared_for _ content = content
+
+-- the bytes of a card's memory after a change of it
+unfoldable pub written : Change → List ℕ → List ℕ
+written change content = applied (pieces_of (table_of content) change) (prepared_for change content)
+
+-- the bytes after some changes, in order
+unfoldable pub all_written : List Change → List ℕ → List ℕ
+all_written [] content = content
+all_written (change ∷ changes) content = all_written changes (written change content)
+
+-- ---- what a call has written
+
+-- One change, in one commit: after Ok the store holds the bytes after it, and after a fault these or those before it.
+pub record WritesChange {T : Type 0} (old new : Memory) (result : Result T StoreFault) (change : Change) : Type 0 where
+  -- carried out, where it tells its bytes: those after the change
+  pub ok : OnOk result (new.told ≡ option_map (written change) old.told)
+  -- stopped by a fault: as they were, or after the change
+  pub whole : OnErr result ((new.told ≡ old.told) ⊎ (new.told ≡ option_map (written change) old.told))
+
+-- The same of the events of a row, which are just those of these codes then.
+pub record WritesEvents {T : Type 0} (old new : Memory) (result : Result T StoreFault) (shelf : ℕ) (codes : List ℕ) : Type 0 where
+  -- twelve bits, one for each code
+  pub events : ℕ
+  pub low : events < 2 ^ 12
+  pub told : codes_of events ≡ codes
+  pub written_so : WritesChange old new result (PutEvents shelf events)
+
+-- The same of pieces, whatever they change.
+pub record WritesPieces {T : Type 0} (old new : Memory) (result : Result T StoreFault) (pieces : List Piece) : Type 0 where
+  pub ok : OnOk result (new.told ≡ option_map (applied pieces) old.told)
+  pub whole : OnErr result ((new.told ≡ old.told) ⊎ (new.told ≡ option_map (applied pieces) old.told))
