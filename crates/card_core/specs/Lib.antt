@@ -15,4 +15,5 @@ pub mod Registered
 pub mod Resetting
 pub mod Serving
 pub mod Starts
+pub mod Transmitting
 pub mod Underway

@@ -59,19 +59,6 @@ pub record StopsAt (state : Persistent) (states : List Persistent) (before now :
   pub within : reached ≤ length states
   pub stands : after ≡ Some (slice_index_or (state ∷ states) reached state)
 
--- How often a command committed, and that its bytes stay where it commits nothing, over a store that tells them.
-pub record CountsCommits {X : Type 0} (result : Result X CardFault) (old new : CardParts) (bytes : List ℕ) (out : Answer) : Type 0 where
-  -- each of the states that the command has was committed once, and no other
-  pub commits : OnServed result out
-      (IfSome (card_of old) (λ card. new.commits ≡ raised_by (length (answer card bytes).commits) old.commits))
-  -- where the memory failed or power was lost, what it stands for is the state after the commits that were acknowledged, or after
-  -- one more
-  pub stopped : IsServed result out
-      ⊎ IfSome (card_of old)
-      (λ card. StopsAt card.persistent (answer card bytes).commits old.commits new.commits (held_by new))
-  -- a command that has none leaves the bytes as they were, also at a fault
-  pub stable : IfSome (card_of old) (λ card. (answer card bytes).commits ≡ [] → new.told ≡ old.told)
-
 -- What is due after a fault, and what a card says of one. Before is the answer as it was before the command.
 pub record TellsFaults {X : Type 0} (result : Result X CardFault) (new : CardParts) (before out : Answer) : Type 0 where
   -- 6581 comes without data

@@ -11,10 +11,11 @@ use uicc_types::{Answer, StatusWord, are_bytes};
 impl<S: Store, B: Applet> CardOver<S, B> {
     ghost use Rattle.card_core.specs.Cards.{parts_of, card_of, IsCardReady, IsLeftGood};
     ghost use Rattle.card_core.specs.AnyStore.{BeginsAnew, command_named, ActsAnew};
-    ghost use Rattle.card_core.specs.Acting.{in_whole, ActsAs, ActsAtOnce, ActsAfterRestart, LeavesCard};
-    ghost use Rattle.card_core.specs.Moves.{IsAnswered, Transmits, CountsCommits, TellsFaults, TellsPower, KeepsCardStore};
+    ghost use Rattle.card_core.specs.Acting.{in_whole, ActsAs};
+    ghost use Rattle.card_core.specs.Moves.{IsAnswered, Transmits, KeepsCardStore};
     ghost use Rattle.card_core.specs.BinaryReads.{ReadsBinaryOnce};
     ghost use Rattle.card_core.specs.Resetting.{KeepsBytes, RecoversIfDue, Rests};
+    ghost use Rattle.card_core.specs.Transmitting.{CountsCalls, Performs, TellsState};
 
     // Does what is due after an earlier fault.
     fn catch_up(&mut self) -> Result<(), StoreFault>
@@ -117,24 +118,12 @@ impl<S: Store, B: Applet> CardOver<S, B> {
         ensures moves { Transmits result (card_of (parts_of S.Store B.Applet self.old))
             (card_of (parts_of S.Store B.Applet self.new)) apdu.now out.new }
         ensures ready { IsCardReady (parts_of S.Store B.Applet self.new) }
-        ensures acts { (parts_of S.Store B.Applet self.old).is_on ≡ true
-            → (parts_of S.Store B.Applet self.old).is_due ≡ false
-            → ActsAtOnce result (parts_of S.Store B.Applet self.old) (parts_of S.Store B.Applet self.new)
+        ensures performs { Performs result (parts_of S.Store B.Applet self.old) (parts_of S.Store B.Applet self.new)
+            apdu.now out.new (self.new ≡ self.old) }
+        ensures counts { CountsCalls result (parts_of S.Store B.Applet self.old) (parts_of S.Store B.Applet self.new)
             apdu.now out.new }
-        ensures anew { (parts_of S.Store B.Applet self.old).is_due ≡ true
-            → ActsAfterRestart result (parts_of S.Store B.Applet self.old) (parts_of S.Store B.Applet self.new)
-            apdu.now out.new }
-        ensures counts { CountsCommits result (parts_of S.Store B.Applet self.old) (parts_of S.Store B.Applet self.new)
-            apdu.now out.new }
-        ensures faults { TellsFaults result (parts_of S.Store B.Applet self.new) out.old out.new }
-        ensures power { TellsPower result (parts_of S.Store B.Applet self.old) (parts_of S.Store B.Applet self.new) }
-        ensures recovers { (parts_of S.Store B.Applet self.old).is_on ≡ true
-            → RecoversIfDue (parts_of S.Store B.Applet self.old) (parts_of S.Store B.Applet self.new) }
-        ensures asks { (parts_of S.Store B.Applet self.old).is_on ≡ true
-            → (parts_of S.Store B.Applet self.old).is_due ≡ false
-            → ReadsBinaryOnce result (parts_of S.Store B.Applet self.old) (parts_of S.Store B.Applet self.new)
-            apdu.now out.new }
-        ensures untouched { LeavesCard (parts_of S.Store B.Applet self.old) apdu.now → self.new ≡ self.old }
+        ensures tells { TellsState result (parts_of S.Store B.Applet self.old) (parts_of S.Store B.Applet self.new)
+            out.old out.new }
         ensures keeps { KeepsCardStore result (parts_of S.Store B.Applet self.old) (parts_of S.Store B.Applet self.new)
             out.new }
     {

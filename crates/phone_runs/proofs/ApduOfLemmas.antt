@@ -124,12 +124,9 @@ envelope_some report = omega arith
 
 pub parts_read : (command : Command) → command_in (apdu_of command) ≡ Some (parts_of command)
 unfolding command_in fields_in apdu_of
-parts_read sent.SelectMf = refl
-parts_read sent.SendProfile = refl
-parts_read (sent.Fetch size) = refl
 parts_read (sent.Respond details reply) = toolkit_read 0x14 (spellings (response_objects details reply)) (responses_some details reply)
 parts_read (sent.Tell report) = toolkit_read 0xC2 (envelope report) (envelope_some report)
-parts_read sent.AskStatus = refl
+parts_read other = refl
 
 -- ---- what the card makes of it
 

@@ -58,26 +58,14 @@ spellings_are (object ∷ others) have = (spelling object, spellings others, ref
 
 reply_tags : (reply : Reply) → AllByRecursion HasTag (reply_objects reply)
 reply_tags (reply.Result general) = ((omega arith, omega arith), tt)
-reply_tags (reply.Typed text) = ((omega arith, omega arith), ((omega arith, omega arith), tt))
-reply_tags (reply.Chosen item) = ((omega arith, omega arith), ((omega arith, omega arith), tt))
-reply_tags (reply.Interval seconds) = ((omega arith, omega arith), ((omega arith, omega arith), tt))
-reply_tags (reply.Located place) = ((omega arith, omega arith), ((omega arith, omega arith), tt))
 reply_tags reply.Unable = ((omega arith, omega arith), tt)
-reply_tags (reply.Started timer) = ((omega arith, omega arith), ((omega arith, omega arith), tt))
 reply_tags (reply.Left timer value) = ((omega arith, omega arith), ((omega arith, omega arith), ((omega arith, omega arith), tt)))
-reply_tags (reply.NotRunning timer) = ((omega arith, omega arith), ((omega arith, omega arith), tt))
+reply_tags other = ((omega arith, omega arith), ((omega arith, omega arith), tt))
 
 -- a result comes first
 with_reply : (details : Details) (reply : Reply) → is_some (with_result (response_objects details reply) (first_value RESULT (response_objects details reply))) ≡ true
 with_reply details (reply.Result general) = refl
-with_reply details (reply.Typed text) = refl
-with_reply details (reply.Chosen item) = refl
-with_reply details (reply.Interval seconds) = refl
-with_reply details (reply.Located place) = refl
-with_reply details reply.Unable = refl
-with_reply details (reply.Started timer) = refl
-with_reply details (reply.Left timer value) = refl
-with_reply details (reply.NotRunning timer) = refl
+with_reply details other = refl
 
 named_so : (details : Details) → details_match details (Some (details.number ∷ details.kind ∷ details.qualifier ∷ [])) ≡ true
 named_so details =

@@ -65,19 +65,13 @@ module _ (Fits : ℕ → Type 0) (Holds : Details → Type 0) (Shown : Type 0) w
   suits_refresh false is_second one two three a b c = c
 
   suits_carried_out : (command : Proactive) (held : Held) (known : Known) → Holds held.details → Shown → Suit (carried_out command held known)
-  suits_carried_out (proactive.DisplayText text) held known holds shown = shown
-  suits_carried_out (proactive.GetInkey text) held known holds shown = shown
-  suits_carried_out (proactive.GetInput text digits least most) held known holds shown = shown
-  suits_carried_out (proactive.SelectItem title items) held known holds shown = shown
-  suits_carried_out (proactive.SetUpMenu title items) held known holds shown = shown
   suits_carried_out (proactive.SetUpEventList events) held known holds shown = holds
-  suits_carried_out (proactive.PlayTone tone) held known holds shown = shown
-  suits_carried_out (proactive.IdleText text) held known holds shown = shown
   suits_carried_out proactive.MoreTime held known holds shown = holds
   suits_carried_out (proactive.PollInterval seconds) held known holds shown = holds
   suits_carried_out (proactive.LocalInformation what) held known holds shown = holds
   suits_carried_out (proactive.TimerManagement action timer value) held known holds shown = holds
   suits_carried_out (proactive.Refresh mode) held known holds shown = suits_refresh (mode == CARD_RESET) known.is_refreshed _ _ _ holds tt holds
+  suits_carried_out other held known holds shown = shown
 
   pub suits_fetched : (found : Result (Details × Proactive) ProactiveFault) (details : Details) (known : Known) → Holds details → ((read : Details × Proactive) → found ≡ Ok read → Holds read.0) → Shown
       → Suit (fetched found details known)
@@ -109,15 +103,12 @@ module _ (Fits : ℕ → Type 0) (Holds : Details → Type 0) (Shown : Type 0) w
   suits_done (Some held) holds = holds
 
   pub suits_noted : (shown : Note) (known : Known) → HoldsIn Holds known.held → IfSome known.announced Fits → Suit (noted shown known)
-  suits_noted (note.Text text) known holds fits = suits_settled known
-  suits_noted (note.Ask text) known holds fits = suits_settled known
-  suits_noted (note.Choose count) known holds fits = suits_settled known
   suits_noted (note.Menu count) known holds fits = suits_done known.held holds
   suits_noted (note.Tone tone) known holds fits = suits_done known.held holds
   suits_noted (note.Idle text) known holds fits = suits_done known.held holds
   suits_noted note.Call known holds fits = suits_next known.announced known fits
   suits_noted note.Barred known holds fits = suits_next known.announced known fits
-  suits_noted note.Busy known holds fits = suits_settled known
+  suits_noted other known holds fits = suits_settled known
 
   -- ---- at a line
 
@@ -127,36 +118,14 @@ module _ (Fits : ℕ → Type 0) (Holds : Details → Type 0) (Shown : Type 0) w
 
   suits_confirm : (command : Proactive) (held : Held) → Holds held.details → Suit (confirm command held)
   suits_confirm (proactive.DisplayText text) held holds = holds
-  suits_confirm (proactive.GetInkey text) held holds = tt
-  suits_confirm (proactive.GetInput text digits least most) held holds = tt
-  suits_confirm (proactive.SelectItem title items) held holds = tt
-  suits_confirm (proactive.SetUpMenu title items) held holds = tt
-  suits_confirm (proactive.SetUpEventList events) held holds = tt
-  suits_confirm (proactive.PlayTone tone) held holds = tt
-  suits_confirm (proactive.IdleText text) held holds = tt
-  suits_confirm proactive.MoreTime held holds = tt
-  suits_confirm (proactive.PollInterval seconds) held holds = tt
-  suits_confirm (proactive.LocalInformation what) held holds = tt
-  suits_confirm (proactive.TimerManagement action timer value) held holds = tt
-  suits_confirm (proactive.Refresh mode) held holds = tt
+  suits_confirm other held holds = tt
 
   suits_menu : (id : ℕ) (known : Known) → Suit (pick_in_menu id known)
   suits_menu id known = suits_if (lists id known.menu) _ Rest tt tt
 
   suits_pick : (id : ℕ) (command : Proactive) (held : Held) (known : Known) → Holds held.details → Suit (pick id command held known)
   suits_pick id (proactive.SelectItem title items) held known holds = suits_if (lists id items) _ Rest holds tt
-  suits_pick id (proactive.DisplayText text) held known holds = suits_menu id known
-  suits_pick id (proactive.GetInkey text) held known holds = suits_menu id known
-  suits_pick id (proactive.GetInput text digits least most) held known holds = suits_menu id known
-  suits_pick id (proactive.SetUpMenu title items) held known holds = suits_menu id known
-  suits_pick id (proactive.SetUpEventList events) held known holds = suits_menu id known
-  suits_pick id (proactive.PlayTone tone) held known holds = suits_menu id known
-  suits_pick id (proactive.IdleText text) held known holds = suits_menu id known
-  suits_pick id proactive.MoreTime held known holds = suits_menu id known
-  suits_pick id (proactive.PollInterval seconds) held known holds = suits_menu id known
-  suits_pick id (proactive.LocalInformation what) held known holds = suits_menu id known
-  suits_pick id (proactive.TimerManagement action timer value) held known holds = suits_menu id known
-  suits_pick id (proactive.Refresh mode) held known holds = suits_menu id known
+  suits_pick id other held known holds = suits_menu id known
 
   suits_pick_with : (id : ℕ) (held : Option Held) (known : Known) → HoldsIn Holds held → Suit (pick_with id held known)
   suits_pick_with id None known holds = suits_menu id known
@@ -164,9 +133,6 @@ module _ (Fits : ℕ → Type 0) (Holds : Details → Type 0) (Shown : Type 0) w
 
   pub suits_said : (heard : HandsetLine) (known : Known) → HoldsIn Holds known.held → Suit (said heard known)
   suits_said line.UserOk known holds = suits_with known.held (λ held. confirm held.command held) holds (λ held each. suits_confirm held.command held each)
-  suits_said line.UserEnd known holds = suits_with known.held _ holds (λ held each. each)
-  suits_said line.UserBack known holds = suits_with known.held _ holds (λ held each. each)
-  suits_said line.UserNone known holds = suits_with known.held _ holds (λ held each. each)
   suits_said (line.UserType text) known holds = suits_with known.held (λ held. type_in text held) holds (λ held each. suits_if (takes held.command (length text)) _ Rest each tt)
   suits_said (line.UserPick id) known holds = suits_pick_with id known.held known holds
   suits_said line.UserPress known holds = suits_if known.listed.activity _ Rest tt tt
@@ -176,3 +142,4 @@ module _ (Fits : ℕ → Type 0) (Holds : Details → Type 0) (Shown : Type 0) w
   suits_said line.NetPoll known holds = tt
   suits_said (line.Time seconds) known holds = suits_settled known
   suits_said line.Reset known holds = tt
+  suits_said other known holds = suits_with known.held _ holds (λ held each. each)

@@ -82,9 +82,7 @@ replied_power : (on after : Bool) (apdu : List ℕ) (reply_so : TraceItem) (item
 replied_power on after apdu (item.Answer body status) items replies seen = record { outcome = reply.Answered; answer = record { body = body; status = status }; shows = seen }
 replied_power on after apdu item.Cut items replies seen = record { outcome = reply.Cut; answer = any_answer; shows = seen }
 replied_power on after apdu item.Off items replies seen = record { outcome = reply.Off; answer = any_answer; shows = seen }
-replied_power on after apdu (item.Command bytes) items replies seen = absurd replies
-replied_power on after apdu item.Reset items replies seen = absurd replies
-replied_power on after apdu item.EepromFailed items replies seen = absurd replies
+replied_power on after apdu other items replies seen = absurd replies
 
 replied_so : (old new : CardView) (apdu : List ℕ) (items : List TraceItem) → StepShows old (step.Apdu apdu) items new → IsReplied apdu items
 replied_so (TheCard old) (TheCard new) apdu items gives = replied_by old.on old new apdu items gives

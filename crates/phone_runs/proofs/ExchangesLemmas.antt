@@ -69,11 +69,8 @@ toolkit_open card basic (Err status) = tt
 carried_open : (card : CardState) → is_open card.channels 0 ≡ true → (command : Command) → OpenIn (carried card command)
 unfolding carried_out
 carried_open card basic sent.SelectMf = file_open card basic (parts_of sent.SelectMf) false _
-carried_open card basic sent.SendProfile = toolkit_open card basic _
-carried_open card basic (sent.Fetch size) = toolkit_open card basic _
-carried_open card basic (sent.Respond details reply) = toolkit_open card basic _
-carried_open card basic (sent.Tell report) = toolkit_open card basic _
 carried_open card basic sent.AskStatus = file_open card basic (parts_of sent.AskStatus) true _
+carried_open card basic other = toolkit_open card basic _
 
 comes_open : (card : CardState) → is_open card.channels 0 ≡ true → (command : Command) → OpenIn (comes card command)
 comes_open card basic command = cut_so (λ answered. is_open answered.state.channels 0 ≡ true) (λ status. ⊤) _ (carried card command) (λ answered is. is) (carried_open card basic command)

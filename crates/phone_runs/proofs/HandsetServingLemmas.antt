@@ -77,21 +77,13 @@ holds_on card later same (Some held) holds = record { out = holds.out; held = sa
 
 reports_bring_nothing : (told : Report) (answer : Answer) → brought (kind_of_report told) answer ≡ None
 reports_bring_nothing (report.MenuSelection item) answer = refl
-reports_bring_nothing report.UserActivity answer = refl
-reports_bring_nothing report.IdleScreen answer = refl
-reports_bring_nothing (report.Location place) answer = refl
-reports_bring_nothing (report.CallControl digits) answer = refl
-reports_bring_nothing (report.Expired timer value due) answer = refl
+reports_bring_nothing other answer = refl
 
 -- ---- what comes next
 
 reports_meet : (card : CardState) (told : Report) (answer : Answer) (before : Known) → IfSome (announced_by answer) (Announces card) → Meets card (announced_by answer) (answered (kind_of_report told) answer before)
-reports_meet card (report.MenuSelection item) answer before tells = suits_reporting (Announces card) (Awaits card) (IfSome (announced_by answer) (Announces card)) answer before tells tells
-reports_meet card report.UserActivity answer before tells = suits_reporting (Announces card) (Awaits card) (IfSome (announced_by answer) (Announces card)) answer before tells tells
-reports_meet card report.IdleScreen answer before tells = suits_reporting (Announces card) (Awaits card) (IfSome (announced_by answer) (Announces card)) answer before tells tells
-reports_meet card (report.Location place) answer before tells = suits_reporting (Announces card) (Awaits card) (IfSome (announced_by answer) (Announces card)) answer before tells tells
 reports_meet card (report.CallControl digits) answer before tells = suits_calling (Announces card) (Awaits card) (IfSome (announced_by answer) (Announces card)) answer before tells tells
-reports_meet card (report.Expired timer value due) answer before tells = suits_reporting (Announces card) (Awaits card) (IfSome (announced_by answer) (Announces card)) answer before tells tells
+reports_meet card other answer before tells = suits_reporting (Announces card) (Awaits card) (IfSome (announced_by answer) (Announces card)) answer before tells tells
 
 another_meets : (card : CardState) (answer : Answer) (before : Known) → IfSome (announced_by answer) (Announces card) → Meets card (announced_by answer) (answered (kind_of sent.SendProfile) answer before)
 another_meets card answer before tells = suits_followed (Announces card) (Awaits card) (IfSome (announced_by answer) (Announces card)) answer before tells
@@ -105,12 +97,9 @@ Allows card (sent.Respond details reply) = Awaits card details
 Allows card _ = ⊤
 
 allows_so : (card : CardState) (told : Option ℕ) (command : Command) → Meets card told (Transmit command) → Allows card command
-allows_so card told sent.SelectMf meets = tt
-allows_so card told sent.SendProfile meets = tt
 allows_so card told (sent.Fetch size) meets = meets
 allows_so card told (sent.Respond details reply) meets = meets
-allows_so card told (sent.Tell report) meets = tt
-allows_so card told sent.AskStatus meets = tt
+allows_so card told other meets = tt
 
 module _ (goes : EventsGoOn) (others : OthersLeaveUnanswered) (reads : DetailsAreRead) (fetches : AnnouncedCommandsAreFetched) (responds : ResponsesAreTaken) where
   fetch_brings : (card : CardState) (size : ℕ) → CanServe card → Announces card size → Brings (next card (sent.Fetch size)) (answer_to card (sent.Fetch size))

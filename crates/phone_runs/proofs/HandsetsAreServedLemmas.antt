@@ -138,14 +138,8 @@ abbrev IsSettled : List Happened → Type 0
 IsSettled h = asked h ≡ Await → ⊥
 
 at_rest : (h : List Happened) (rest : List TraceItem) (new : Machine) (whole : List TraceItem) → IsSettled h → Reached h rest new whole → At h rest new whole
-at_rest [] rest new whole settled reached = reached
-at_rest (Said heard ∷ h) rest new whole settled reached = reached
 at_rest (Sent command ∷ h) rest new whole settled reached = absurd (settled refl)
-at_rest (Answered answer ∷ h) rest new whole settled reached = reached
-at_rest (Noted note ∷ h) rest new whole settled reached = reached
-at_rest (Restarted ∷ h) rest new whole settled reached = reached
-at_rest (PowerCut ∷ h) rest new whole settled reached = reached
-at_rest (FoundOff ∷ h) rest new whole settled reached = reached
+at_rest other rest new whole settled reached = reached
 
 -- what is seen next
 next_seen : (h : List Happened) (rest : List TraceItem) (new : Machine) (whole : List TraceItem) → (at : At h rest new whole) → First at.machine rest new
@@ -226,13 +220,7 @@ module _ (goes : EventsGoOn) (others : OthersLeaveUnanswered) (reads : DetailsAr
 
   answer_came : (h : List Happened) (answer : Answer) (rest : List TraceItem) (new : Machine) (whole : List TraceItem) → Reached h (item.Answer answer.body answer.status ∷ rest) new whole → At (Answered answer ∷ h) rest new whole
   answer_came (Sent command ∷ h) answer rest new whole reached = reached_answer h command rest new whole reached.0 answer reached.1
-  answer_came [] answer rest new whole reached = absurd (next_seen [] _ new whole reached)
-  answer_came (Said heard ∷ h) answer rest new whole reached = absurd (next_seen (Said heard ∷ h) _ new whole reached)
-  answer_came (Answered first ∷ h) answer rest new whole reached = absurd (next_seen (Answered first ∷ h) _ new whole reached)
-  answer_came (Noted note ∷ h) answer rest new whole reached = absurd (next_seen (Noted note ∷ h) _ new whole reached)
-  answer_came (Restarted ∷ h) answer rest new whole reached = absurd (next_seen (Restarted ∷ h) _ new whole reached)
-  answer_came (PowerCut ∷ h) answer rest new whole reached = absurd (next_seen (PowerCut ∷ h) _ new whole reached)
-  answer_came (FoundOff ∷ h) answer rest new whole reached = absurd (next_seen (FoundOff ∷ h) _ new whole reached)
+  answer_came h answer rest new whole reached = absurd (next_seen h _ new whole reached)
 
   reset_cut : (h : List Happened) (rest : List TraceItem) (new : Machine) (whole : List TraceItem) → At h (item.Cut ∷ rest) new whole → At (PowerCut ∷ h) rest new whole
   reset_cut h rest new whole at = record {
@@ -244,23 +232,11 @@ module _ (goes : EventsGoOn) (others : OthersLeaveUnanswered) (reads : DetailsAr
 
   cut_came : (h : List Happened) (rest : List TraceItem) (new : Machine) (whole : List TraceItem) → Reached h (item.Cut ∷ rest) new whole → At (PowerCut ∷ h) rest new whole
   cut_came (Sent command ∷ h) rest new whole reached = reached_cut h command rest new whole reached.0 reached.1
-  cut_came [] rest new whole reached = reset_cut [] rest new whole reached
-  cut_came (Said heard ∷ h) rest new whole reached = reset_cut (Said heard ∷ h) rest new whole reached
-  cut_came (Answered first ∷ h) rest new whole reached = reset_cut (Answered first ∷ h) rest new whole reached
-  cut_came (Noted note ∷ h) rest new whole reached = reset_cut (Noted note ∷ h) rest new whole reached
-  cut_came (Restarted ∷ h) rest new whole reached = reset_cut (Restarted ∷ h) rest new whole reached
-  cut_came (PowerCut ∷ h) rest new whole reached = reset_cut (PowerCut ∷ h) rest new whole reached
-  cut_came (FoundOff ∷ h) rest new whole reached = reset_cut (FoundOff ∷ h) rest new whole reached
+  cut_came h rest new whole reached = reset_cut h rest new whole reached
 
   off_came : (h : List Happened) (rest : List TraceItem) (new : Machine) (whole : List TraceItem) → Reached h (item.Off ∷ rest) new whole → ⊥
   off_came (Sent command ∷ h) rest new whole reached = never_off h command rest new whole reached.0 reached.1
-  off_came [] rest new whole reached = next_seen [] _ new whole reached
-  off_came (Said heard ∷ h) rest new whole reached = next_seen (Said heard ∷ h) _ new whole reached
-  off_came (Answered first ∷ h) rest new whole reached = next_seen (Answered first ∷ h) _ new whole reached
-  off_came (Noted note ∷ h) rest new whole reached = next_seen (Noted note ∷ h) _ new whole reached
-  off_came (Restarted ∷ h) rest new whole reached = next_seen (Restarted ∷ h) _ new whole reached
-  off_came (PowerCut ∷ h) rest new whole reached = next_seen (PowerCut ∷ h) _ new whole reached
-  off_came (FoundOff ∷ h) rest new whole reached = next_seen (FoundOff ∷ h) _ new whole reached
+  off_came h rest new whole reached = next_seen h _ new whole reached
 
   -- ---- all of a history
 
@@ -292,14 +268,8 @@ module _ (goes : EventsGoOn) (others : OthersLeaveUnanswered) (reads : DetailsAr
 
     -- at the end no command is left without an answer
     ends_served : (h : List Happened) (new : Machine) (whole : List TraceItem) → Reached h [] new whole → AreServed whole
-    ends_served [] new whole reached = reached.all_served tt
-    ends_served (Said heard ∷ h) new whole reached = reached.all_served tt
     ends_served (Sent command ∷ h) new whole reached = absurd (next_seen h (item.Command (apdu_of command) ∷ []) new whole reached.1)
-    ends_served (Answered answer ∷ h) new whole reached = reached.all_served tt
-    ends_served (Noted note ∷ h) new whole reached = reached.all_served tt
-    ends_served (Restarted ∷ h) new whole reached = reached.all_served tt
-    ends_served (PowerCut ∷ h) new whole reached = reached.all_served tt
-    ends_served (FoundOff ∷ h) new whole reached = reached.all_served tt
+    ends_served other new whole reached = reached.all_served tt
 
     history_served : (h : List Happened) (new : Machine) (steps : List Step) (lines : List HandsetLine) (trace : List TraceEntry) → IsOf lines trace h → IsRun first steps (items_seen trace) new → AreServed (items_seen trace)
     history_served h new steps lines trace is run =

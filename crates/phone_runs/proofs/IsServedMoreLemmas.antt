@@ -2,7 +2,7 @@
 use Rattle.std.proofs.Common.{◌≡◌, ℕ, ◌<◌, Bool, true, false, List, ◌∷◌, Option, Some, None, refl, sym, ap, ◌∙◌, subst, inl, inr, arith, ◌+◌, ◌&&◌, if◌then◌else◌, is_none, length}
 use Rattle.uicc_types.specs.declared.answers.Answer.{Answer}
 use Rattle.script_form.specs.declared.handset.HandsetLine.{HandsetLine}
-use Rattle.script_form.specs.declared.handset.HandsetLine.TheVariants.{UserOk, UserEnd, UserBack, UserNone, UserType, UserPick, UserPress, UserIdle, UserDial, NetPlace, NetPoll, Time, Reset}
+use Rattle.script_form.specs.declared.handset.HandsetLine.TheVariants.{UserOk, UserType, UserPick, UserPress, UserIdle, UserDial, NetPlace, NetPoll, Time, Reset}
 use Rattle.script_form.specs.declared.handset.Note.{Note}
 use Rattle.toolkit_commands.specs.declared.commands.Proactive.{Proactive}
 use Rattle.toolkit_commands.specs.declared.commands.Proactive.TheVariants.{DisplayText, SelectItem}
@@ -46,30 +46,21 @@ pub record IsSend (h : List Happened) (apdu : List ℕ) : Type 0 where
 
 send_of : (h : List Happened) (duty : Duty) (apdu : List ℕ) → asked h ≡ duty → item_of duty ≡ Some (step.Send apdu) → IsSend h apdu
 send_of h (Transmit command) apdu is item = record { command = command; asked_is = is; bytes = cc }
-send_of h Rest apdu is item = absurd (cc)
-send_of h Await apdu is item = absurd (cc)
-send_of h (Show note) apdu is item = absurd (cc)
-send_of h ResetCard apdu is item = absurd (cc)
+send_of h other apdu is item = absurd (cc)
 
 pub is_send : (h : List Happened) (apdu : List ℕ) → next_item h ≡ Some (step.Send apdu) → IsSend h apdu
 is_send h apdu item = send_of h (asked h) apdu refl item
 
 note_of : (duty : Duty) (note : Note) → item_of duty ≡ Some (step.Note note) → duty ≡ Show note
 note_of (Show shown) note item = cc
-note_of Rest note item = absurd (cc)
-note_of Await note item = absurd (cc)
-note_of (Transmit command) note item = absurd (cc)
-note_of ResetCard note item = absurd (cc)
+note_of other note item = absurd (cc)
 
 pub is_note : (h : List Happened) (note : Note) → next_item h ≡ Some (step.Note note) → asked h ≡ Show note
 is_note h note item = note_of (asked h) note item
 
 reset_of : (duty : Duty) → item_of duty ≡ Some step.Reset → duty ≡ ResetCard
 reset_of ResetCard item = refl
-reset_of Rest item = absurd (cc)
-reset_of Await item = absurd (cc)
-reset_of (Show note) item = absurd (cc)
-reset_of (Transmit command) item = absurd (cc)
+reset_of other item = absurd (cc)
 
 pub is_reset : (h : List Happened) → next_item h ≡ Some step.Reset → asked h ≡ ResetCard
 is_reset h item = reset_of (asked h) item
@@ -77,9 +68,7 @@ is_reset h item = reset_of (asked h) item
 none_of : (duty : Duty) → item_of duty ≡ None → (duty ≡ Await → ⊥) → duty ≡ Rest
 none_of Rest item no_answer = refl
 none_of Await item no_answer = absurd (no_answer refl)
-none_of ResetCard item no_answer = absurd (cc)
-none_of (Show note) item no_answer = absurd (cc)
-none_of (Transmit command) item no_answer = absurd (cc)
+none_of other item no_answer = absurd (cc)
 
 pub is_none_asked : (h : List Happened) → next_item h ≡ None → (asked h ≡ Await → ⊥) → asked h ≡ Rest
 is_none_asked h item no_answer = none_of (asked h) item no_answer
@@ -163,10 +152,7 @@ served_more old new h later was is next = record {
 -- the handset waits for an answer
 abbrev awaits : Duty → Bool
 awaits Await = true
-awaits Rest = false
-awaits (Transmit command) = false
-awaits (Show note) = false
-awaits ResetCard = false
+awaits other = false
 
 if_calm : (test : Bool) (one other : Duty) → awaits one ≡ false → awaits other ≡ false → awaits (if test then one else other) ≡ false
 if_calm true one other first second = first
@@ -201,9 +187,6 @@ settled_calm known = if_calm known.is_timed _ _ (report_calm (ripe known.clock (
 
 said_calm : (line : HandsetLine) (known : Known) → awaits (said line known) ≡ false
 said_calm UserOk known = held_calm known.held _ (λ held. confirm_calm held.command held)
-said_calm UserEnd known = held_calm known.held _ (λ held. refl)
-said_calm UserBack known = held_calm known.held _ (λ held. refl)
-said_calm UserNone known = held_calm known.held _ (λ held. refl)
 said_calm (UserType text) known = held_calm known.held _ (λ held. if_calm (takes held.command (length text)) _ _ refl refl)
 said_calm (UserPick id) known = pick_with_calm id known.held known
 said_calm UserPress known = if_calm known.listed.activity _ _ refl refl
@@ -213,6 +196,7 @@ said_calm (NetPlace place) known = if_calm known.listed.location _ _ refl refl
 said_calm NetPoll known = refl
 said_calm (Time seconds) known = settled_calm known
 said_calm Reset known = refl
+said_calm other known = held_calm known.held _ (λ held. refl)
 
 heard_calm : (silent : Bool) (line : HandsetLine) (known : Known) → awaits (said_at silent line known) ≡ false
 heard_calm true Reset known = refl

@@ -13,7 +13,7 @@ use Rattle.script_reader.proofs.AreReadLemmas.{AreRead-more}
 use Rattle.script_reader.specs.Reading.{Finds, Follows}
 use Rattle.script_reader.specs.Said.{AreRead}
 use Rattle.script_reader.specs.declared.behind.PlayEnd.{PlayEnd}
-use Rattle.script_reader.specs.declared.behind.PlayEnd.TheVariants.{Finished, BadLine, ReadFailed, SinkFailed, ResetFailed}
+use Rattle.script_reader.specs.declared.behind.PlayEnd.TheVariants.{SinkFailed, ResetFailed}
 use Rattle.script_reader.specs.declared.reader.ScriptReader.{ScriptReader}
 use Rattle.card_core.specs.Parts.{CardParts}
 use Rattle.terminal_side.specs.Kept.{Kept}
@@ -171,8 +171,6 @@ ends_serving text opening given script left left_then end phone parts taken wait
 
 -- whatever the end is
 pub lines_end : (text : List ℕ) (opening : List ScriptLine) (given : Beginning) (left : Option (List ℕ)) (end : PlayEnd) (now : Moment) → PhoneEnds text opening given left end now → PhoneComesTo text opening given left end now
-lines_end text opening given left Finished now ends = ends
-lines_end text opening given left (BadLine number) now ends = ends
-lines_end text opening given left ReadFailed now ends = ends
 lines_end text opening given left SinkFailed now ends = absurd ends.cause
 lines_end text opening given left ResetFailed now ends = absurd ends.cause
+lines_end text opening given left other now ends = ends

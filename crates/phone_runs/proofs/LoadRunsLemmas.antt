@@ -11,11 +11,11 @@ use Rattle.script_form.specs.declared.handset.HandsetLine.{HandsetLine}
 use Rattle.card_model.specs.Counts.{IsCounted}
 use Rattle.card_model.specs.Runs.{plan_given, armed_after}
 use Rattle.card_core.specs.Parts.{CardParts}
-use Rattle.handset_model.specs.History.{Said, Sent, Answered, Noted, Restarted, PowerCut, FoundOff}
+use Rattle.handset_model.specs.History.{Said, Sent, Restarted, PowerCut}
 use Rattle.handset_model.specs.Legal.{TraceEntry, Seen, Shown}
 use Rattle.handset_model.specs.Rules.{asked}
 use Rattle.handset_model.specs.declared.known.Duty.{Duty}
-use Rattle.handset_model.specs.declared.known.Duty.TheVariants.{Rest, Transmit, Await, Show, ResetCard}
+use Rattle.handset_model.specs.declared.known.Duty.TheVariants.{ResetCard}
 use Rattle.terminal_side.specs.Kept.{Kept}
 use Rattle.run_steps.proofs.SteppingLemmas.{stands_seen}
 use Rattle.run_steps.specs.Stepping.{Moment}
@@ -97,21 +97,16 @@ heard_are_heard (line ∷ made) = (tt, heard_are_heard made)
 
 cut_plans_nothing : (duty : Duty) → Every PlansNothing (cut_steps duty)
 cut_plans_nothing ResetCard = (tt, tt)
-cut_plans_nothing Rest = tt
-cut_plans_nothing (Transmit command) = tt
-cut_plans_nothing Await = tt
-cut_plans_nothing (Show note) = tt
+cut_plans_nothing other = tt
 
 steps_plan_nothing : (log : List Event) → Every IsHeard (lines_back log) → Every PlansNothing (steps_back log)
 steps_plan_nothing [] heard = tt
 steps_plan_nothing (Happens (Said line) ∷ log) heard = steps_plan_nothing log heard.1
 steps_plan_nothing (Happens (Sent command) ∷ log) heard = (tt, steps_plan_nothing log heard)
-steps_plan_nothing (Happens (Answered answer) ∷ log) heard = steps_plan_nothing log heard
-steps_plan_nothing (Happens (Noted note) ∷ log) heard = steps_plan_nothing log heard
 steps_plan_nothing (Happens Restarted ∷ log) heard = (tt, steps_plan_nothing log heard)
 steps_plan_nothing (Happens PowerCut ∷ log) heard = every-append PlansNothing (cut_steps (asked (history log))) (steps_back log) (cut_plans_nothing (asked (history log))) (steps_plan_nothing log heard)
-steps_plan_nothing (Happens FoundOff ∷ log) heard = steps_plan_nothing log heard
 steps_plan_nothing (Plans plan ∷ log) heard = absurd heard.0
+steps_plan_nothing (event ∷ log) heard = steps_plan_nothing log heard
 
 none_armed : (taken : List Step) → Every PlansNothing taken → armed_after NONE taken ≡ []
 none_armed [] plan_nothing = refl

@@ -45,25 +45,17 @@ Follows log (event ∷ later) = MayCome event (asked (history log)) × Follows (
 abbrev lines_on : List Event → List PhoneLine
 lines_on [] = []
 lines_on (Happens (Said line) ∷ later) = Hears line ∷ lines_on later
-lines_on (Happens (Sent command) ∷ later) = lines_on later
-lines_on (Happens (Answered answer) ∷ later) = lines_on later
-lines_on (Happens (Noted note) ∷ later) = lines_on later
-lines_on (Happens Restarted ∷ later) = lines_on later
-lines_on (Happens PowerCut ∷ later) = lines_on later
-lines_on (Happens FoundOff ∷ later) = lines_on later
 lines_on (Plans plan ∷ later) = Arms plan ∷ lines_on later
+lines_on (event ∷ later) = lines_on later
 
 -- the steps of the card
 abbrev steps_on : List Event → List Event → List Step
 steps_on log [] = []
-steps_on log (Happens (Said line) ∷ later) = steps_on (Happens (Said line) ∷ log) later
 steps_on log (Happens (Sent command) ∷ later) = step.Apdu (apdu_of command) ∷ steps_on (Happens (Sent command) ∷ log) later
-steps_on log (Happens (Answered answer) ∷ later) = steps_on (Happens (Answered answer) ∷ log) later
-steps_on log (Happens (Noted note) ∷ later) = steps_on (Happens (Noted note) ∷ log) later
 steps_on log (Happens Restarted ∷ later) = step.Reset ∷ steps_on (Happens Restarted ∷ log) later
 steps_on log (Happens PowerCut ∷ later) = cut_steps (asked (history log)) ++ steps_on (Happens PowerCut ∷ log) later
-steps_on log (Happens FoundOff ∷ later) = steps_on (Happens FoundOff ∷ log) later
 steps_on log (Plans plan ∷ later) = step.Plan plan ∷ steps_on (Plans plan ∷ log) later
+steps_on log (event ∷ later) = steps_on (event ∷ log) later
 
 -- what is shown
 abbrev entries_on : List Event → List TraceEntry
@@ -91,42 +83,21 @@ follows_onto (Plans plan ∷ log) later o t f = follows_onto log (Plans plan ∷
 lines_onto : (log later : List Event) → lines_on (reverse_aux log later) ≡ reverse_aux (lines_back log) (lines_on later)
 lines_onto [] later = refl
 lines_onto (Happens (Said line) ∷ log) later = lines_onto log (Happens (Said line) ∷ later)
-lines_onto (Happens (Sent command) ∷ log) later = lines_onto log (Happens (Sent command) ∷ later)
-lines_onto (Happens (Answered answer) ∷ log) later = lines_onto log (Happens (Answered answer) ∷ later)
-lines_onto (Happens (Noted note) ∷ log) later = lines_onto log (Happens (Noted note) ∷ later)
-lines_onto (Happens Restarted ∷ log) later = lines_onto log (Happens Restarted ∷ later)
-lines_onto (Happens PowerCut ∷ log) later = lines_onto log (Happens PowerCut ∷ later)
-lines_onto (Happens FoundOff ∷ log) later = lines_onto log (Happens FoundOff ∷ later)
-lines_onto (Plans plan ∷ log) later = lines_onto log (Plans plan ∷ later)
+lines_onto (event ∷ log) later = lines_onto log (event ∷ later)
 
 cut_onto : (duty : Duty) (back later : List Step) → reverse_aux back (cut_steps duty ++ later) ≡ reverse_aux (cut_steps duty ++ back) later
 cut_onto ResetCard back later = refl
-cut_onto Rest back later = refl
-cut_onto (Transmit command) back later = refl
-cut_onto Await back later = refl
-cut_onto (Show note) back later = refl
+cut_onto other back later = refl
 
 steps_onto : (log later : List Event) → steps_on [] (reverse_aux log later) ≡ reverse_aux (steps_back log) (steps_on log later)
 steps_onto [] later = refl
-steps_onto (Happens (Said line) ∷ log) later = steps_onto log (Happens (Said line) ∷ later)
-steps_onto (Happens (Sent command) ∷ log) later = steps_onto log (Happens (Sent command) ∷ later)
-steps_onto (Happens (Answered answer) ∷ log) later = steps_onto log (Happens (Answered answer) ∷ later)
-steps_onto (Happens (Noted note) ∷ log) later = steps_onto log (Happens (Noted note) ∷ later)
-steps_onto (Happens Restarted ∷ log) later = steps_onto log (Happens Restarted ∷ later)
 steps_onto (Happens PowerCut ∷ log) later = steps_onto log (Happens PowerCut ∷ later) ∙ cut_onto (asked (history log)) (steps_back log) (steps_on (Happens PowerCut ∷ log) later)
-steps_onto (Happens FoundOff ∷ log) later = steps_onto log (Happens FoundOff ∷ later)
-steps_onto (Plans plan ∷ log) later = steps_onto log (Plans plan ∷ later)
+steps_onto (event ∷ log) later = steps_onto log (event ∷ later)
 
 entries_onto : (log later : List Event) → entries_on (reverse_aux log later) ≡ reverse_aux (entries_of (history log)) (entries_on later)
 entries_onto [] later = refl
 entries_onto (Happens (Said line) ∷ log) later = entries_onto log (Happens (Said line) ∷ later)
-entries_onto (Happens (Sent command) ∷ log) later = entries_onto log (Happens (Sent command) ∷ later)
-entries_onto (Happens (Answered answer) ∷ log) later = entries_onto log (Happens (Answered answer) ∷ later)
-entries_onto (Happens (Noted note) ∷ log) later = entries_onto log (Happens (Noted note) ∷ later)
-entries_onto (Happens Restarted ∷ log) later = entries_onto log (Happens Restarted ∷ later)
-entries_onto (Happens PowerCut ∷ log) later = entries_onto log (Happens PowerCut ∷ later)
-entries_onto (Happens FoundOff ∷ log) later = entries_onto log (Happens FoundOff ∷ later)
-entries_onto (Plans plan ∷ log) later = entries_onto log (Plans plan ∷ later)
+entries_onto (event ∷ log) later = entries_onto log (event ∷ later)
 
 -- ---- a run from somewhere on
 
@@ -326,14 +297,10 @@ abbrev IsNext : Duty → Event → List PhoneLine → Type 0
 IsNext duty event more = next_by duty more ≡ Some event
 
 next_or_none : (event : Event) (later : List Event) (duty : Duty) → MayCome event duty → IsCalm (items_on (event ∷ later)) → IsNext duty event (lines_on (event ∷ later)) ⊎ (next_by duty (lines_on (event ∷ later)) ≡ None)
-next_or_none (Happens (Said line)) later duty may calm = inl (rw may refl)
-next_or_none (Happens (Sent command)) later duty may calm = inl (rw may refl)
-next_or_none (Happens (Noted note)) later duty may calm = inl (rw may refl)
-next_or_none (Happens Restarted) later duty may calm = inl (rw may refl)
-next_or_none (Plans plan) later duty may calm = inl (rw may refl)
 next_or_none (Happens (Answered answer)) later duty may calm = inr (rw may refl)
 next_or_none (Happens FoundOff) later duty may calm = inr (rw may refl)
 next_or_none (Happens PowerCut) later duty may calm = absurd (no_cut (items_on later) calm)
+next_or_none other later duty may calm = inl (rw may refl)
 
 said_next : (line : HandsetLine) (more : List PhoneLine) (duty : Duty) → duty ≡ Rest → IsNext duty (Happens (Said line)) (Hears line ∷ more)
 said_next line more duty may = rw may refl
@@ -359,25 +326,14 @@ same_next duty event other more later next same (inr none) = absurd (some_not_no
 
 -- where nothing more is asked for, only a line comes
 none_more : (event : Event) (later : List Event) (duty : Duty) → MayCome event duty → duty ≡ Rest → lines_on (event ∷ later) ≡ [] → ⊥
-none_more (Happens (Said line)) later duty may rests none = cc
-none_more (Plans plan) later duty may rests none = cc
-none_more (Happens (Sent command)) later duty may rests none = cc
-none_more (Happens (Answered answer)) later duty may rests none = cc
-none_more (Happens (Noted note)) later duty may rests none = cc
-none_more (Happens Restarted) later duty may rests none = cc
 none_more (Happens PowerCut) later duty (inl may) rests none = cc
 none_more (Happens PowerCut) later duty (inr may) rests none = cc
-none_more (Happens FoundOff) later duty may rests none = cc
+none_more other later duty may rests none = cc
 
 same_lines : (event : Event) (f g : List Event) → lines_on (event ∷ f) ≡ lines_on (event ∷ g) → lines_on f ≡ lines_on g
 same_lines (Happens (Said line)) f g same = ap tail_of same
-same_lines (Happens (Sent command)) f g same = same
-same_lines (Happens (Answered answer)) f g same = same
-same_lines (Happens (Noted note)) f g same = same
-same_lines (Happens Restarted) f g same = same
-same_lines (Happens PowerCut) f g same = same
-same_lines (Happens FoundOff) f g same = same
 same_lines (Plans plan) f g same = ap tail_of same
+same_lines other f g same = same
 
 -- ---- two runs
 

@@ -1,11 +1,11 @@
 -- What a run of a handset is by the rules of the handset, and by those of the card.
 use Rattle.std.proofs.Common.{◌≡◌, List, [], ◌∷◌, ◌++◌, refl, sym, ap, ◌∙◌, inl, reverse}
 use Rattle.std.proofs.lemmas.List.{append-nil, reverse-append}
-use Rattle.handset_model.specs.History.{Said, Sent, Answered, Noted, Restarted, PowerCut, FoundOff}
+use Rattle.handset_model.specs.History.{Said}
 use Rattle.handset_model.specs.Legal.{IsOf, IsOrderly, lines_of}
 use Rattle.run_steps.proofs.ViewLemmas.{run_shown}
 use Rattle.phone_runs.specs.Laws.{RunsAreBegun, RunsAreLegal, RunsAreOfTheCard}
-use Rattle.phone_runs.specs.Logs.{Event, Happens, Plans, PhoneLine, Hears, Arms, heard, history, log_lines, lines_back, shown, steps, trace}
+use Rattle.phone_runs.specs.Logs.{Event, Happens, PhoneLine, Hears, Arms, heard, history, log_lines, lines_back, shown, steps, trace}
 
 -- what is heard of lines and of others after them
 heard-append : (first more : List PhoneLine) → heard (first ++ more) ≡ heard first ++ heard more
@@ -25,13 +25,7 @@ heard-reverse (Arms plan ∷ told) =
 heard_back : (log : List Event) → heard (lines_back log) ≡ lines_of (history log)
 heard_back [] = refl
 heard_back (Happens (Said line) ∷ log) = ap (λ rest. line ∷ rest) (heard_back log)
-heard_back (Happens (Sent command) ∷ log) = heard_back log
-heard_back (Happens (Answered answer) ∷ log) = heard_back log
-heard_back (Happens (Noted note) ∷ log) = heard_back log
-heard_back (Happens Restarted ∷ log) = heard_back log
-heard_back (Happens PowerCut ∷ log) = heard_back log
-heard_back (Happens FoundOff ∷ log) = heard_back log
-heard_back (Plans plan ∷ log) = heard_back log
+heard_back (event ∷ log) = heard_back log
 
 pub is_of : (log : List Event) → IsOrderly (history log) → IsOf (heard (log_lines log)) (trace log) (history log)
 is_of log orderly = record {

@@ -150,8 +150,7 @@ with_reply command outcome answer log = Happens (replied outcome answer) ∷ Hap
 
 steps_sent : (command : Command) (outcome : Reply) (answer : Answer) (log : List Event) → steps (with_reply command outcome answer log) ≡ steps log ++ step.Apdu (apdu_of command) ∷ []
 steps_sent command reply.Answered answer log = reverse-append (step.Apdu (apdu_of command) ∷ []) (steps_back log)
-steps_sent command reply.Cut answer log = reverse-append (step.Apdu (apdu_of command) ∷ []) (steps_back log)
-steps_sent command reply.Off answer log = reverse-append (step.Apdu (apdu_of command) ∷ []) (steps_back log)
+steps_sent command other answer log = reverse-append (step.Apdu (apdu_of command) ∷ []) (steps_back log)
 
 abbrev pub sent_entries : Command → Reply → Answer → List TraceEntry
 sent_entries command outcome answer = Seen (item.Command (apdu_of command)) ∷ Seen (seen_of outcome answer) ∷ []
@@ -178,8 +177,7 @@ sends_on command outcome answer log is = record {
 
 pub lines_sent : (command : Command) (outcome : Reply) (answer : Answer) (log : List Event) → lines_back (with_reply command outcome answer log) ≡ lines_back log
 lines_sent command reply.Answered answer log = refl
-lines_sent command reply.Cut answer log = refl
-lines_sent command reply.Off answer log = refl
+lines_sent command other answer log = refl
 
 pub reaches_sent : CountsJoin → PlansAreSetInOrder → (given : Beginning) (log : List Event) (command : Command) (outcome : Reply) (answer : Answer) (old new : Kept) (from to : Moment) → asked (history log) ≡ Transmit command
     → ((old : CardView) → IsSeen old from → TakesShowing (exchanged (apdu_of command) answer outcome) old (step.Apdu (apdu_of command)) from to)

@@ -70,11 +70,7 @@ carried_command bytes carries = carried_by bytes (command_in bytes) refl carries
 -- no bytes tell whether the memory failed
 calm_by_status : (shown : TraceItem) → is_calm (without_bytes shown) ≡ is_calm shown
 calm_by_status (item.Command apdu) = refl
-calm_by_status (item.Answer body status) = refl
-calm_by_status item.Reset = refl
-calm_by_status item.Cut = refl
-calm_by_status item.Off = refl
-calm_by_status item.EepromFailed = refl
+calm_by_status other = refl
 
 calm_alike : (shown other : TraceItem) → without_bytes other ≡ without_bytes shown → is_calm other ≡ true → is_calm shown ≡ true
 calm_alike shown other alike calm = sym (calm_by_status shown) ∙ ap is_calm (sym alike) ∙ calm_by_status other ∙ calm
@@ -84,9 +80,7 @@ replies_over : (make : Answer → Linked) (on after : Bool) (shown : TraceItem) 
 replies_over make on after (item.Answer body status) bare replies = (replies.0, bare, replies.2)
 replies_over make on after item.Cut bare replies = replies
 replies_over make on after item.Off bare replies = replies
-replies_over make on after (item.Command apdu) bare replies = absurd replies
-replies_over make on after item.Reset bare replies = absurd replies
-replies_over make on after item.EepromFailed bare replies = absurd replies
+replies_over make on after other bare replies = absurd replies
 
 module _ (old new : End) (bytes : List ℕ) where
   -- the link passed an APDU, which met the card, and of what that showed it made this

@@ -63,11 +63,7 @@ IsShownOnce make shown = (failed (shown_over make shown) ≡ failed shown) × (l
 
 pub given_shown : (shown : TraceItem) → IsShownOnce given shown
 given_shown (item.Answer body status) = (refl, refl)
-given_shown (item.Command apdu) = (refl, refl)
-given_shown item.Reset = (refl, refl)
-given_shown item.Cut = (refl, refl)
-given_shown item.Off = (refl, refl)
-given_shown item.EepromFailed = (refl, refl)
+given_shown other = (refl, refl)
 
 -- an answer with data tells of no failure
 no_data : (byte : ℕ) (more : List ℕ) → byte ∷ more ≡ [] → ⊥
@@ -95,20 +91,12 @@ kept_by answer false calm = (counting_more (length answer.body) ∙ sym (calm re
 
 pub kept_shown : (shown : TraceItem) → IsBare shown → IsShownOnce kept_back shown
 kept_shown (item.Answer body status) bare = kept_by (record { body = body; status = status }) (length body == 0) (λ some. with_data body status bare some)
-kept_shown (item.Command apdu) bare = (refl, refl)
-kept_shown item.Reset bare = (refl, refl)
-kept_shown item.Cut bare = (refl, refl)
-kept_shown item.Off bare = (refl, refl)
-kept_shown item.EepromFailed bare = (refl, refl)
+kept_shown other bare = (refl, refl)
 
 -- a loss of power is shown as it is
 pub cut_over : (make : Answer → Linked) (shown : TraceItem) → cut (shown_over make shown) ≡ cut shown
 cut_over make (item.Answer body status) = refl
-cut_over make (item.Command apdu) = refl
-cut_over make item.Reset = refl
-cut_over make item.Cut = refl
-cut_over make item.Off = refl
-cut_over make item.EepromFailed = refl
+cut_over make other = refl
 
 -- ---- a terminal that follows what is announced
 
@@ -195,10 +183,7 @@ received_shown expected make follows bares (item.Answer body status) bare =
     let answer : Answer = record { body = body; status = status } in
     record { failed_as = follows answer bare; bare = received_bare expected (make answer) (bares answer bare) }
 received_shown expected make follows bares (item.Command apdu) bare = record { failed_as = refl; bare = tt }
-received_shown expected make follows bares item.Reset bare = record { failed_as = refl; bare = tt }
-received_shown expected make follows bares item.Cut bare = record { failed_as = refl; bare = tt }
-received_shown expected make follows bares item.Off bare = record { failed_as = refl; bare = tt }
-received_shown expected make follows bares item.EepromFailed bare = record { failed_as = refl; bare = tt }
+received_shown expected make follows bares other bare = record { failed_as = refl; bare = tt }
 
 received_by : (expected : Option ℕ) (kept : Option Answer) (tpdu : List ℕ) (way : Option Transfer) → IsShownAsOne (then_received expected (course_of kept tpdu way))
 received_by expected kept tpdu None = tt

@@ -42,11 +42,7 @@ on_or_off false no_off = absurd (no_off refl)
 -- a failure has no data
 pub bare_reply : (on after : Bool) (shown : TraceItem) → IsReply on shown after → IsBare shown
 bare_reply on after (item.Answer body status) replies = replies.1
-bare_reply on after item.Cut replies = tt
-bare_reply on after item.Off replies = tt
-bare_reply on after (item.Command apdu) replies = tt
-bare_reply on after item.Reset replies = tt
-bare_reply on after item.EepromFailed replies = tt
+bare_reply on after other replies = tt
 
 -- a state that is left
 left_in : (after : Option CardState) (P : CardState → Type 0) → IsSomeAnd after P → (card : CardState) × (after ≡ Some card) × P card

@@ -110,19 +110,11 @@ changes_no_step same old kept bytes command good are read known =
 
 bare_failure : (reply : TraceItem) → is_failure (without_bytes reply) ≡ is_failure reply
 bare_failure (item.Command bytes) = refl
-bare_failure (item.Answer body status) = refl
-bare_failure item.Cut = refl
-bare_failure item.Off = refl
-bare_failure item.Reset = refl
-bare_failure item.EepromFailed = refl
+bare_failure other = refl
 
 bare_cut : (reply : TraceItem) → is_cut (without_bytes reply) ≡ is_cut reply
 bare_cut (item.Command bytes) = refl
-bare_cut (item.Answer body status) = refl
-bare_cut item.Cut = refl
-bare_cut item.Off = refl
-bare_cut item.Reset = refl
-bare_cut item.EepromFailed = refl
+bare_cut other = refl
 
 -- so many items pass a test that looks at no bytes
 count_bare : (test : TraceItem → Bool) → ((reply : TraceItem) → test (without_bytes reply) ≡ test reply) → (items : List TraceItem) → count_by test (map without_bytes items) ≡ count_by test items
