@@ -237,7 +237,12 @@ class Lists(unittest.TestCase):
         self.assertEqual(lines[2].split("  ")[0], "2")
         self.assertTrue(lines[2].endswith("EF_FDN, EF_EST"), lines[2])
         self.assertEqual(in_process("profile", "services", "EF.SST").stdout.splitlines()[0].split(), ["service", "in", "EF_SST", "files"])
-        self.assertIn("`xyz` is no service table: ust, sst, ist, est are", in_process("profile", "services", "xyz").stderr)
+        done = in_process("profile", "services", "xyz")
+        self.assertEqual((done.returncode, done.stderr), (1, "profile: no service of EF_UST has `xyz` in its line; the tables are ust, sst, ist, est\n"))
+        for words, numbers in ((("fdn",), ["2", "99"]), (("EF.PNN",), ["45", "79"]), (("sst", "FDN"), ["3"]), (("est", "fixed", "dialling"), ["1"])):
+            with self.subTest(words=words):
+                lines = in_process("profile", "services", *words).stdout.splitlines()
+                self.assertEqual([line.split()[0] for line in lines], ["service", *numbers])
         for kind, count in (("ust", len(names.table("files")["ust"])), ("sst", len(names.table("files")["sst"]))):
             self.assertEqual(len(listing.service_lines(kind)), count + 1)
 
@@ -264,7 +269,11 @@ class Batch(unittest.TestCase):
         ("iccid,7F10/6F99:name\n", "line 1: the column `7F10/6F99:name`: `name` isn't known: hex is"),
         ("iccid,EF_SMX:hex\n", "line 1: the column `EF_SMX:hex`: [EF_SMX] EF_SMX: no standard file is called so, but EF_SMS is"),
         (f"iccid,EF_SMSP:validity\n{ONE},x\n", "line 2: [EF_SMSP] parameters: entry 1: `validity` is text, and has to be a number"),
-        (HEAD + "8.99E+18,,,,,\n", "line 2: iccid `8.99E+18`: an ICCID has 18 to 20 digits, and not 8: a spreadsheet has rounded it"),
+        (HEAD + "8.99E+18,,,,,\n", "line 2: iccid `8.99E+18`: a spreadsheet has rounded it, and its cells have to be of text"),
+        (HEAD + f'{ONE},"2,6201E+14",,,,\n', "line 2: imsi `2,6201E+14`: a spreadsheet has rounded it, and its cells have to be of text"),
+        (GOOD, "line 1: the first line names the columns, as `iccid,imsi,pin1`, and this one has the numbers of a card"),
+        ("ICCID,PUK 1\n", "line 1: no column is called `puk 1`, but `unblock1` is"),
+        ("ICCID,ADM 1\n", "line 1: no column is called `adm 1`, but `adm` is"),
         (HEAD + GOOD + GOOD.splitlines()[0] + "\n", "line 7: its iccid 8999901000000000005 is that of line 2"),
         (HEAD + f"{ONE},001010000000000,,,,\n" + GOOD.splitlines()[0] + "\n", "line 3: its imsi 001010000000000 is that of line 2"),
         (HEAD + f"{ONE},1,,,,\n", "line 2: [EF_IMSI] imsi: an IMSI has 6 to 15 digits"),
@@ -359,8 +368,10 @@ class Batch(unittest.TestCase):
         """Semicolons, a mark of the byte order, lines of another system; binary bytes."""
         text = "\ufeff" + (self.HEAD + self.GOOD).replace(",", ";").replace("\n", "\r\n")
         self.assertEqual(self.batch(text).returncode, 0)
-        with self.assertRaises(batch.BadList):
-            batch.rows_in(b"\x7fELF\x00\xff", "list.csv")
+        for content, why in ((b"\x7fELF\x00\xff", "line 1: it isn't UTF-8"), ("iccid\r\n".encode("utf-16"), "line 1: it is UTF-16"),
+                             (b"iccid,spn\n1,N\xf6rd\n", "line 2: it isn't UTF-8: a spreadsheet saves a list that is read here as `CSV UTF-8`")):
+            with self.subTest(why=why), self.assertRaisesRegex(batch.BadList, why):
+                batch.rows_in(content, "list.csv")
 
     def test_a_puk_that_two_cards_have_is_a_warning(self):
         lines = self.GOOD.splitlines()
