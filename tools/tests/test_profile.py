@@ -366,6 +366,15 @@ class Mistakes(unittest.TestCase):
         ('[[applet]]\nkind = "table"\non = { locaton = ["show A"] }', ["line 2: [[applet]]: the applet on shelf 6: `locaton` is no event, but "
                                                                   "`location` is: "]),
         ('[EF_IMSI]\nimsi = "262019876543210"\n["7F20/6F07"]\nsize = 9', ['line 4: ["7F20/6F07"] is the same file as [EF_IMSI]']),
+        ('[EF.IMSI]\nimsi = "262019876543210"\n[EF.SPN]\nspn = "A"',
+         ['line 2: [EF.IMSI]: a dot without quotes makes a table within another one: it is written [EF_IMSI], or ["EF.IMSI"]',
+          'line 4: [EF.SPN]: a dot without quotes makes a table within another one: it is written [EF_SPN], or ["EF.SPN"]']),
+        ('[EF_IMSI]\nsize = "9"\nshort = "7"', ["line 3: [EF_IMSI] size is text, and has to be a number from 1 to 32767: size = 9",
+                                              "line 4: [EF_IMSI] short is text, and has to be a number from 0 to 30: short = 7"]),
+        ('[EF_SMS]\nlength = "176"\nsize = "176"', ["line 3: [EF_SMS] length is text, and has to be a number from 1 to 255: length = 176",
+                                                   "line 4: [EF_SMS] size is text, and has to be a number from 1 to 32767: size = 17"]),
+        ('[pins.pin1]\nunblock = 12345678\n\nvalue = 1234', ["line 3: [pins] pin1: `unblock` is a number, and has to be text in quotes",
+                                                          "line 5: [pins] pin1: `value` is a number, and has to be text in quotes"]),
         ('[EF_IMSI]\nimsi = "1"\n[EF_ACC]\nacc = [10]', ["line 3: [EF_IMSI] imsi: an IMSI has 6 to 15 digits", "line 5: [EF_ACC] acc: an access "
                                                       "control class is 0 to 9"]),
     ]

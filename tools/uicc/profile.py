@@ -196,7 +196,8 @@ def judged(profile, is_part=False, own=()):
     for name, value in tables:
         found = list(faults_of_file(name, value, usim))
         faults += found + list(faults_beside(name, value, found, usim))
-    builder = Builder(without(profile, [fault.path for fault in faults]), usim)
+    nameless = [(name,) for name, _ in tables if path_or_none(name) is None]
+    builder = Builder(without(profile, [fault.path for fault in faults] + nameless), usim)
     builder.build()
     faults += [fault for fault in builder.faults if is_own(fault, faults, is_part)]
     script = lint.read("".join(line + "\n" for line in builder.lines))

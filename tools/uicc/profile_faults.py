@@ -42,6 +42,8 @@ AT_TOP = {
     "default": (DEFAULT, '[default] and below it read = "always"'),
     "applet": (forms.ListOf(APPLET, "tables"), '[[applet]] and below it kind = "greeter"'),
 }
+# what stands before the dot of a file's name
+NAMES_BEFORE_A_DOT = ("EF", "DF", "ADF")
 # how the keys in those tables are written
 EXAMPLES = {
     **{key: '{ value = "1234", unblock = "12345678" }' for key in PIN_KEYS}, "adm": '{ value = "88888888" }',
@@ -87,12 +89,25 @@ def faults_of_part(head, value, form, example):
             yield (), dump.printable(f"{forms.about(head.strip('[]'), wrong)}: {example}")
         return
     for key, each in value.items():
-        for wrong in form.faults_of_key(key, each):
-            yield (key,), dump.printable(forms.about(f"{head} {key}", wrong) + (f": {key} = {EXAMPLES[key]}" if key in EXAMPLES else ""))
+        for within, wrong in faults_of_key(form, key, each):
+            yield (key, *within), dump.printable(forms.about(f"{head} {key}", wrong) + (f": {key} = {EXAMPLES[key]}" if key in EXAMPLES else ""))
+
+
+def faults_of_key(form, key, value):
+    """What is wrong with a key of a table, and of a table in it with each of its keys, which leads to what is wrong."""
+    inner = form.keys.get(key)
+    if not isinstance(inner, forms.TableOf) or not isinstance(value, dict):
+        yield from (((), wrong) for wrong in form.faults_of_key(key, value))
+        return
+    for part, each in value.items():
+        yield from (((part,), f": {forms.about(f'`{part}`', wrong)}") for wrong in inner.faults_of_key(part, each))
 
 
 def faults_of_file(name, given, usim):
     """What is wrong with the table of a file."""
+    if name.upper() in NAMES_BEFORE_A_DOT and any(isinstance(each, dict) for each in given.values()):
+        yield from (Fault((name, key), dump.printable(about_dot(name, key))) for key in given)
+        return
     try:
         path = path_of(name)
     except BadProfile as bad:
@@ -100,6 +115,11 @@ def faults_of_file(name, given, usim):
         return
     entry = names.file(path, usim)
     yield from (Fault((name, *keys), f"{shown_name(name)} {reason}") for keys, reason in faults_of_keys(path, given, entry))
+
+
+def about_dot(name, key):
+    """What is said of a file's name with a dot that stands in no quotes: TOML has a table in another one there."""
+    return f"[{name}.{key}]: a dot without quotes makes a table within another one: it is written [{name}_{key}], or [\"{name}.{key}\"]"
 
 
 def faults_of_keys(path, given, entry):
@@ -114,6 +134,7 @@ def faults_of_keys(path, given, entry):
     for key, value in given.items():
         if key in OF_FILE:
             form, example = OF_FILE[key]
+            example = standard_example(key, entry) or example
             found = form.faults(value)
         elif key in fields.KEYS:
             found, example = faults_of_content(key, value, entry)
@@ -126,6 +147,13 @@ def faults_of_keys(path, given, entry):
     words = [key for key in OPERATIONS if key in given]
     if "rule" in given and words:
         yield ("rule",), f"says who may do what by `rule` and by {', '.join(words)}, and one of them does"
+
+
+def standard_example(key, entry):
+    """What the standard has for a key of a file's shape, as text; None where it has nothing."""
+    fits = entry and (key == "short" or key == "size" and entry.get("structure") == "t" or key == "length" and entry.get("structure") in ("l", "c"))
+    found = entry.get("short" if key == "short" else "length") if fits else None
+    return str(found) if found else None
 
 
 def is_folder(path, entry):
