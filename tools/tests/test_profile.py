@@ -290,6 +290,26 @@ class Quotes(unittest.TestCase):
             self.assertTrue(str(caught.exception).endswith(why), (line, str(caught.exception)))
 
 
+class Without(unittest.TestCase):
+    """Files of the template that a profile leaves out."""
+
+    def card(self, text):
+        made = profile.made_in(f'like = "usim"\n{text}\n'.encode(), "card.toml")
+        return lint.read(made.text).card
+
+    def test_files_and_folders(self):
+        whole, card = self.card(""), self.card('without = ["EF_NETPAR", "7F20/5F3B", "EF.PLMNwAcT"]')
+        gone = {("7F20", "6FC4"), ("7F20", "5F3B"), ("7F20", "5F3B", "4F20"), ("7F20", "5F3B", "4F52"), ("7F20", "6F60")}
+        self.assertEqual(set(whole.files) - set(card.files), gone)
+        self.assertEqual(list(checking.findings(card, "usim"))[:1], ["7F20/6FC4 EF.NETPAR is missing: network parameters"])
+
+    def test_no_file_of_the_profile(self):
+        """The rules that only such a file had aren't written."""
+        never = bytes.fromhex("9700")
+        found = [never in bytes(self.card(text).files[("2F06",)].content) for text in ("", 'without = ["EF_ICCID"]')]
+        self.assertEqual(found, [True, False])
+
+
 class Mistakes(unittest.TestCase):
     """Everyday mistakes: each is told with its line, what is wrong, and what would be right."""
     HEAD = 'like = "usim"\n'
@@ -321,7 +341,7 @@ class Mistakes(unittest.TestCase):
         ('[EF_SPN]\nrecords = ["00", "01"]\nlength = 1\ncount = 1', ["line 3: [EF_SPN] records: it has 2 records, and room for 1: `count = 2`"]),
         ('["7F10/6F99"]\nrecords = ["01"]\nlength = { a = 1 }\nfolder = true',
          ['line 4: ["7F10/6F99"] length is a table, and has to be a number from 1 to 255', 'line 5: ["7F10/6F99"] says `folder`, and the table of a DF']),
-        ("colour = 1", ["line 2: `colour` isn't known at the top of a profile: `like`, [pins], [default], [[applet]] and tables of files are"]),
+        ("colour = 1", ["line 2: `colour` isn't known at the top of a profile: `like`, `without`, [pins], [default], [[applet]] and tables of files are"]),
         ('EF_IMSI = "262019876543210"', ["line 2: `EF_IMSI` is text, and has to be a table: [EF_IMSI] and below it what the file holds"]),
         ('[pins]\nadm1 = { value = "1234" }', ["line 3: [pins] adm1 isn't known: it is called `adm`"]),
         ('[pins]\npuk1 = "12345678"', ["line 3: [pins] puk1 isn't known: the UNBLOCK PIN (PUK) stands with its PIN: "
@@ -366,6 +386,11 @@ class Mistakes(unittest.TestCase):
         ('[[applet]]\nkind = "table"\non = { locaton = ["show A"] }', ["line 2: [[applet]]: the applet on shelf 6: `locaton` is no event, but "
                                                                   "`location` is: "]),
         ('[EF_IMSI]\nimsi = "262019876543210"\n["7F20/6F07"]\nsize = 9', ['line 4: ["7F20/6F07"] is the same file as [EF_IMSI]']),
+        ('without = "EF_NETPAR"', ['line 2: without is text, and has to be a list of texts: without = ["EF_NETPAR"]']),
+        ('without = ["EF_GID1", "EF_FOO"]', ["line 2: without: EF_GID1 is no file of the template", "line 2: without: [EF_FOO] EF_FOO: no standard file"]),
+        ('without = ["EF_SPN"]\n[EF_SPN]\nspn = "A"', ["line 3: [EF_SPN] stands there, and `without` leaves it out"]),
+        ('[EF_SPN]\nwithout = ["EF_LI"]', ['line 3: [EF_SPN] without isn\'t known in a table: `without = ["EF_NETPAR"]` stands at the top of a profile']),
+        ('[EF_LI]\nabsent = true', ['line 3: [EF_LI] absent isn\'t known: `without = ["EF_NETPAR"]` at the top of a profile leaves files']),
         ('[EF.IMSI]\nimsi = "262019876543210"\n[EF.SPN]\nspn = "A"',
          ['line 2: [EF.IMSI]: a dot without quotes makes a table within another one: it is written [EF_IMSI], or ["EF.IMSI"]',
           'line 4: [EF.SPN]: a dot without quotes makes a table within another one: it is written [EF_SPN], or ["EF.SPN"]']),

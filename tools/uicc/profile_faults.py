@@ -16,8 +16,10 @@ OF_FILE = {
 }
 SHAPE = "`size` makes a file transparent, `length` and `count` one with records, and `cyclic = true` a cyclic one"
 BY_ADM = "{} asks for the administrator's PIN, and no rule of a file says otherwise"
+LEFT_OUT = '`without = ["EF_NETPAR"]` at the top of a profile leaves files of the template out'
 # what is meant by other words for those
 SLIPS = {
+    **dict.fromkeys(("absent", "remove", "removed", "exclude"), LEFT_OUT),
     "write": "it is called `update`", "search": "who may read may search too: `read`", "invalidate": "it is called `deactivate`",
     "rehabilitate": "it is called `activate`", "delete": BY_ADM.format("DELETE FILE"), "create": BY_ADM.format("CREATE FILE"),
     "resize": BY_ADM.format("RESIZE FILE"), "sfi": "it is called `short`", "structure": SHAPE, "type": SHAPE, "record_length": "it is called `length`",
@@ -38,6 +40,7 @@ APPLET = forms.TableOf({"kind": forms.TEXT, "shelf": forms.Bounded(0, layout.SHE
 # the keys at the top of a profile that name no file, and how they are written
 AT_TOP = {
     "like": (forms.TEXT, 'like = "usim"'),
+    "without": (forms.TEXTS, 'without = ["EF_NETPAR"]'),
     "pins": (PINS, '[pins] and below it pin1 = { value = "1234", unblock = "12345678" }'),
     "default": (DEFAULT, '[default] and below it read = "always"'),
     "applet": (forms.ListOf(APPLET, "tables"), '[[applet]] and below it kind = "greeter"'),
@@ -71,7 +74,7 @@ def about_top(name, value):
         return f"`{name}` isn't known at the top of a profile: `{meant}` is"
     if name.upper().startswith(("EF", "DF")) or dump.is_identifier(name):
         return f"`{name}` is {forms.called(value)}, and has to be a table: {shown_name(name)} and below it what the file holds"
-    return f"`{name}` isn't known at the top of a profile: `like`, [pins], [default], [[applet]] and tables of files are"
+    return f"`{name}` isn't known at the top of a profile: `like`, `without`, [pins], [default], [[applet]] and tables of files are"
 
 
 def faults_of_table(name, value, form, example):
