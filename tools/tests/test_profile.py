@@ -9,6 +9,8 @@ from common import in_process
 from uicc import access, checking, contents, lint, located, names, process, profile, rules, structured
 
 EXAMPLES = os.path.join(process.TOP, "examples")
+# of the template
+PIN_LINE = "pin 01 31323334FFFFFFFF on 3132333435363738"
 
 
 def card_of(text):
@@ -637,6 +639,41 @@ class Command(unittest.TestCase):
             with open(script, encoding="utf-8") as there:
                 self.assertEqual(there.read(), mine)
             self.assertEqual(self.profile("build", given, "-o", script, "--force").returncode, 0)
+
+    def test_lines_that_were_changed_by_hand(self):
+        """A line of a script that somebody changed, took out or put in isn't lost where the script is built again; the profile's changes are no
+        such ones."""
+        with tempfile.TemporaryDirectory() as folder:
+            given, script = os.path.join(folder, "card.toml"), os.path.join(folder, "card.script")
+
+            def build(name, *words):
+                with open(given, "w", encoding="utf-8") as out:
+                    out.write(f'like = "usim"\n[EF_SPN]\nspn = "{name}"\n')
+                return self.profile("build", given, "-o", script, *words)
+
+            self.assertEqual(build("A").returncode, 0)
+            self.assertEqual(build("Ä").returncode, 0)
+            with open(script, encoding="utf-8") as built:
+                text = built.read()
+            lines = text.splitlines()
+            at = next(number for number, line in enumerate(lines, 1) if line.startswith("fill 7F206F46 "))
+            changes = [(text.replace("pin 01 31323334", "pin 01 35353535"), f" (the new script hasn't line {lines.index(PIN_LINE) + 1})"),
+                       (text.replace("# EF.SPN", "# mine, EF.SPN").replace(lines[at - 1], lines[at - 1][:-2] + "00"),
+                        f" (the new script hasn't lines {at - 2}, {at})"),
+                       (text.replace(lines[at - 1] + "\n", ""), ""),
+                       (text.replace("\nstart\n", "\n# mine\nstart\n"), f" (the new script hasn't line {len(lines)})")]
+            for mine, which in changes:
+                with self.subTest(which=which):
+                    self.assertNotEqual(mine, text)
+                    with open(script, "w", encoding="utf-8") as out:
+                        out.write(mine)
+                    done = build("Ä")
+                    self.assertEqual((done.returncode, done.stderr), (2, f"profile: nothing is written: {script} was changed by hand after it was "
+                                                                     f"built{which}; --force writes over it\n"))
+                    with open(script, encoding="utf-8") as there:
+                        self.assertEqual(there.read(), mine)
+                    self.assertEqual(build("Ä", "--force").returncode, 0)
+            self.assertEqual((build("B").returncode, build("B").returncode), (0, 0))
 
     def test_a_tree_is_whole(self):
         """What is decoded goes on in a next line, and of other bytes a line is shown, or all."""
