@@ -110,7 +110,7 @@ class Images(unittest.TestCase):
         (image.PINS, 0x05, "a PIN has the key 05"),
         (image.NODES + image.NODE_WIDTH + 14, 0xFF, "the file 2F06 has 255 bytes in its records, and 259 are there"),
         (image.NODES + 3 * image.NODE_WIDTH + 4, 0x7F, "has no place"),
-        (0, 0x00, "the bytes begin with no card"),
+        (0, 0x00, "it holds no card: it begins with 00 49 43 43, and a card with 55 49 43 43"),
         (4, 0x03, "the image is of layout 3, and layouts 1 and 2 are known here"),
         (image.ROWS + 6 * image.ROW_STRIDE + 7, 0x30, "the applet on shelf 6 has a text of"),
     ]
@@ -126,7 +126,25 @@ class Images(unittest.TestCase):
             self.assertIn(why, str(caught.exception))
         done = in_process("profile", "export", self.path)
         self.assertEqual(done.returncode, 2)
-        self.assertTrue(done.stderr.startswith("profile: the image holds no card"), done.stderr)
+        self.assertTrue(done.stderr.startswith(f"profile: {self.path}: the image holds no card"), done.stderr)
+
+    # what a file holds in the place of an image, and what is said of it
+    NONE = [
+        (b"\xFF" * image.JOURNAL_SIZE, "the memory is blank: all its bytes are FF, and no card was made in it"),
+        (bytes(image.PAGES_SIZE), "the memory is blank: all its bytes are 00, and no card was made in it"),
+        (b"\0MORE".ljust(image.JOURNAL_SIZE, b"\xFF"), "it holds no card: it begins with 00 4D 4F 52, and a card with 55 49 43 43"),
+        (b"UICC\x02\x00".ljust(1000, b"\xFF"), "it is no image of a card: it has 1,000 bytes, and an image has 65,536, or 71,680"),
+    ]
+
+    def test_files_that_hold_no_card(self):
+        """Each command that reads a card names the file and says why none is in it."""
+        for content, why in self.NONE:
+            with open(self.path, "wb") as out:
+                out.write(content)
+            for words in (["tree"], ["check"], ["rules"], ["export"], ["diff", self.path]):
+                with self.subTest(words=words, why=why):
+                    done = in_process("profile", *words, self.path)
+                    self.assertEqual((done.returncode, done.stdout, done.stderr), (2, "", f"profile: {self.path}: {why}\n"))
 
 
 class Differing(unittest.TestCase):
