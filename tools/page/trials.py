@@ -120,6 +120,11 @@ def refuses(browser):
          "other.img: no card is in it: byte 832 isn't as a card has it. Nothing was replaced."),
         ("image", "long.img", bytes(2_000_000), "long.img: it has 2,000,000 bytes, and a memory has at most 1,048,576. Nothing was replaced."),
         ("script", "card.img", image, f"card.img: its byte {image.index(0)} is 00, and a script is a text. Nothing was replaced."),
+        ("script", "card.toml", b'# mine\nlike = "usim"\n[EF_SPN]\nspn = "A"\n',
+         "card.toml: it is a profile, of which tools/profile build makes a script. Nothing was replaced."),
+        ("script", "list.csv", b"imsi;ICCID\n", "list.csv: it is a list of cards, of which tools/profile batch makes scripts. Nothing was replaced."),
+        ("script", "card.trace", b"> 00B0820001\n< 019000\n", "card.trace: it is a trace, which `Load` of the trace takes. Nothing was replaced."),
+        ("image", "blank.img", b"\xFF" * 65_536, "blank.img: no card is in it: the memory is blank, all its bytes are FF. Nothing was replaced."),
         ("trace", "card.script", READS.encode(), "card.script: its line 1 is none of a trace. Nothing was replaced."),
         ("trace", "empty", b"", "empty: it is empty. Nothing was replaced."),
     )
@@ -131,9 +136,27 @@ def refuses(browser):
     before = stands(browser)
     browser.evaluate("uicc.goOn()")
     expect("what is said of a run that left no card", text_of(browser, "#image-told"),
-           "The memory of the last run: no card is in it: byte 0 isn't as a card has it. Nothing was replaced.")
+           "The memory of the last run: no card is in it: the memory is blank, all its bytes are FF. Nothing was replaced.")
     expect("what stands after it", stands(browser), before)
     return f"{len(wrong)} files that can't be loaded"
+
+
+# a script that is loaded, how it was played before, and how it is played then
+LOADED = (
+    ("ef 2FE2 t 4 2 -\nstart\napdu 00B0820001\n", "phone", "play"), ("ef 2FE2 t 4 2 -\nstart\nuser ok\n", "play", "phone"),
+    ("ef 2FE2 t 4 2 -\nstart\n", "open", "play"), ("start\nreset\n", "open", "open"), ("ef 2FE2 t 4 2 -\nstart\nreset\n", "phone", "phone"),
+)
+
+
+def played_as_it_is_for(browser):
+    """A script that is loaded is played to a card where it sends commands, and to a handset where it says what happens there."""
+    for script, before, after in LOADED:
+        play(browser, before, "start\n")
+        choose_file(browser, "script", "card.script", script.encode())
+        expect(f"what `{script.splitlines()[-1]}` is played to", browser.evaluate("uicc.mode"), after)
+        browser.click("#undo")
+        browser.wait(f"uicc.mode === '{before}' && !uicc.isRunning")
+    return f"{len(LOADED)} scripts, each played as it is for"
 
 
 def takes_back(browser):
@@ -327,7 +350,11 @@ ACCESS = "6982 the security status isn't satisfied: "
 CONDITIONS = "6985 conditions of use aren't satisfied: "
 ROOM = "6A84 there is no room: "
 # commands, and what is said of the answer; nothing where the command is done
+NO_ADF = "a card here has no ADF: the files of a USIM lie in 7F20, and those of an ISIM in 7FF2"
 CAUSES = (
+    ("00A4040C07A0000000871002", "6A82 file not found: " + NO_ADF),
+    ("00A4040007A0000000871002", "6A86 wrong P1 or P2: " + NO_ADF),
+    ("00A4080C047FFF6F07", "6A82 file not found: " + NO_ADF),
     ("00D6810001AA", ACCESS + "rule 2F06:1 asks for PIN 1 or ADM1 to update; PIN 1 isn't verified, ADM1 isn't verified"),
     ("00B0820001", ACCESS + "rule 2F06:2 lets nobody read"),
     ("00D6820001AA", ACCESS + "rule 2F06:2 asks for PIN 2 to update; PIN 2 isn't on the card"),
@@ -498,6 +525,6 @@ def trap(browser):
 
 
 ALL = (
-    typing, refuses, takes_back, narrow, turned, keyboard, toolkit, first_sight, colours, causes, terms, bad_line, many_writes, names_in_files,
-    signs, words_of_a_script, link, trap,
+    typing, refuses, played_as_it_is_for, takes_back, narrow, turned, keyboard, toolkit, first_sight, colours, causes, terms, bad_line, many_writes,
+    names_in_files, signs, words_of_a_script, link, trap,
 )

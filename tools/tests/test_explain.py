@@ -288,6 +288,20 @@ class Explain(unittest.TestCase):
         self.assertEqual(done.returncode, 1)
         self.assertRegex(done.stderr, r"usim\.script: it is none of this trace, which shows [0-9A-F]+ where line \d+ is `apdu ")
 
+    def test_a_script_with_a_wrong_line(self):
+        """It shows nothing after that line: where the trace doesn't end there, it is another one's."""
+        with tempfile.TemporaryDirectory() as folder:
+            path = os.path.join(folder, "wrong.script")
+            with open(path, "w", encoding="ascii") as out:
+                out.write("ef 2FE2 t 4 2 -\nstart\napdu 00B0820004\napdu 00 B0\napdu 00B0820001\n")
+            shown = "> 00B0820004\n< FFFFFFFF9000\n"
+            own = self.explain("--script", path, text=shown + "line 4\n")
+            other = self.explain("--script", path, text=shown + "> 00B0820001\n< FF9000\n")
+        self.assertEqual((own.returncode, own.stderr), (0, ""))
+        self.assertEqual(other.returncode, 1)
+        self.assertIn("wrong.script: it is none of this trace, since its line 4 is wrong: HEX is one word", other.stderr)
+        self.assertNotIn("    5  > 00B0820001", other.stdout)
+
     def test_script_played_otherwise(self):
         """Where a handset's script plays to another trace, the program that it was played by is named."""
         day = os.path.join(EXAMPLES, "day")

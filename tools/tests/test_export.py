@@ -110,7 +110,7 @@ class Images(unittest.TestCase):
         (image.PINS, 0x05, "a PIN has the key 05"),
         (image.NODES + image.NODE_WIDTH + 14, 0xFF, "the file 2F06 has 255 bytes in its records, and 259 are there"),
         (image.NODES + 3 * image.NODE_WIDTH + 4, 0x7F, "has no place"),
-        (0, 0x00, "the bytes begin with no card"),
+        (0, 0x00, "it holds no card: it begins with 00 49 43 43, and a card with 55 49 43 43"),
         (4, 0x03, "the image is of layout 3, and layouts 1 and 2 are known here"),
         (image.ROWS + 6 * image.ROW_STRIDE + 7, 0x30, "the applet on shelf 6 has a text of"),
     ]
@@ -126,7 +126,25 @@ class Images(unittest.TestCase):
             self.assertIn(why, str(caught.exception))
         done = in_process("profile", "export", self.path)
         self.assertEqual(done.returncode, 2)
-        self.assertTrue(done.stderr.startswith("profile: the image holds no card"), done.stderr)
+        self.assertTrue(done.stderr.startswith(f"profile: {self.path}: the image holds no card"), done.stderr)
+
+    # what a file holds in the place of an image, and what is said of it
+    NONE = [
+        (b"\xFF" * image.JOURNAL_SIZE, "the memory is blank: all its bytes are FF, and no card was made in it"),
+        (bytes(image.PAGES_SIZE), "the memory is blank: all its bytes are 00, and no card was made in it"),
+        (b"\0MORE".ljust(image.JOURNAL_SIZE, b"\xFF"), "it holds no card: it begins with 00 4D 4F 52, and a card with 55 49 43 43"),
+        (b"UICC\x02\x00".ljust(1000, b"\xFF"), "it is no image of a card: it has 1,000 bytes, and an image has 65,536, or 71,680"),
+    ]
+
+    def test_files_that_hold_no_card(self):
+        """Each command that reads a card names the file and says why none is in it."""
+        for content, why in self.NONE:
+            with open(self.path, "wb") as out:
+                out.write(content)
+            for words in (["tree"], ["check"], ["rules"], ["export"], ["diff", self.path]):
+                with self.subTest(words=words, why=why):
+                    done = in_process("profile", *words, self.path)
+                    self.assertEqual((done.returncode, done.stdout, done.stderr), (2, "", f"profile: {self.path}: {why}\n"))
 
 
 class Differing(unittest.TestCase):
@@ -237,7 +255,12 @@ class Lists(unittest.TestCase):
         self.assertEqual(lines[2].split("  ")[0], "2")
         self.assertTrue(lines[2].endswith("EF_FDN, EF_EST"), lines[2])
         self.assertEqual(in_process("profile", "services", "EF.SST").stdout.splitlines()[0].split(), ["service", "in", "EF_SST", "files"])
-        self.assertIn("`xyz` is no service table: ust, sst, ist, est are", in_process("profile", "services", "xyz").stderr)
+        done = in_process("profile", "services", "xyz")
+        self.assertEqual((done.returncode, done.stderr), (1, "profile: no service of EF_UST has `xyz` in its line; the tables are ust, sst, ist, est\n"))
+        for words, numbers in ((("fdn",), ["2", "99"]), (("EF.PNN",), ["45", "79"]), (("sst", "FDN"), ["3"]), (("est", "fixed", "dialling"), ["1"])):
+            with self.subTest(words=words):
+                lines = in_process("profile", "services", *words).stdout.splitlines()
+                self.assertEqual([line.split()[0] for line in lines], ["service", *numbers])
         for kind, count in (("ust", len(names.table("files")["ust"])), ("sst", len(names.table("files")["sst"]))):
             self.assertEqual(len(listing.service_lines(kind)), count + 1)
 
@@ -264,7 +287,11 @@ class Batch(unittest.TestCase):
         ("iccid,7F10/6F99:name\n", "line 1: the column `7F10/6F99:name`: `name` isn't known: hex is"),
         ("iccid,EF_SMX:hex\n", "line 1: the column `EF_SMX:hex`: [EF_SMX] EF_SMX: no standard file is called so, but EF_SMS is"),
         (f"iccid,EF_SMSP:validity\n{ONE},x\n", "line 2: [EF_SMSP] parameters: entry 1: `validity` is text, and has to be a number"),
-        (HEAD + "8.99E+18,,,,,\n", "line 2: iccid `8.99E+18`: an ICCID has 18 to 20 digits, and not 8: a spreadsheet has rounded it"),
+        (HEAD + "8.99E+18,,,,,\n", "line 2: iccid `8.99E+18`: a spreadsheet has rounded it, and its cells have to be of text"),
+        (HEAD + f'{ONE},"2,6201E+14",,,,\n', "line 2: imsi `2,6201E+14`: a spreadsheet has rounded it, and its cells have to be of text"),
+        (GOOD, "line 1: the first line names the columns, as `iccid,imsi,pin1`, and this one has the numbers of a card"),
+        ("ICCID,PUK 1\n", "line 1: no column is called `puk 1`, but `unblock1` is"),
+        ("ICCID,ADM 1\n", "line 1: no column is called `adm 1`, but `adm` is"),
         (HEAD + GOOD + GOOD.splitlines()[0] + "\n", "line 7: its iccid 8999901000000000005 is that of line 2"),
         (HEAD + f"{ONE},001010000000000,,,,\n" + GOOD.splitlines()[0] + "\n", "line 3: its imsi 001010000000000 is that of line 2"),
         (HEAD + f"{ONE},1,,,,\n", "line 2: [EF_IMSI] imsi: an IMSI has 6 to 15 digits"),
@@ -359,8 +386,10 @@ class Batch(unittest.TestCase):
         """Semicolons, a mark of the byte order, lines of another system; binary bytes."""
         text = "\ufeff" + (self.HEAD + self.GOOD).replace(",", ";").replace("\n", "\r\n")
         self.assertEqual(self.batch(text).returncode, 0)
-        with self.assertRaises(batch.BadList):
-            batch.rows_in(b"\x7fELF\x00\xff", "list.csv")
+        for content, why in ((b"\x7fELF\x00\xff", "line 1: it isn't UTF-8"), ("iccid\r\n".encode("utf-16"), "line 1: it is UTF-16"),
+                             (b"iccid,spn\n1,N\xf6rd\n", "line 2: it isn't UTF-8: a spreadsheet saves a list that is read here as `CSV UTF-8`")):
+            with self.subTest(why=why), self.assertRaisesRegex(batch.BadList, why):
+                batch.rows_in(content, "list.csv")
 
     def test_a_puk_that_two_cards_have_is_a_warning(self):
         lines = self.GOOD.splitlines()

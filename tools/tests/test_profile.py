@@ -9,6 +9,8 @@ from common import in_process
 from uicc import access, checking, contents, lint, located, names, process, profile, rules, structured
 
 EXAMPLES = os.path.join(process.TOP, "examples")
+# of the template
+PIN_LINE = "pin 01 31323334FFFFFFFF on 3132333435363738"
 
 
 def card_of(text):
@@ -290,6 +292,26 @@ class Quotes(unittest.TestCase):
             self.assertTrue(str(caught.exception).endswith(why), (line, str(caught.exception)))
 
 
+class Without(unittest.TestCase):
+    """Files of the template that a profile leaves out."""
+
+    def card(self, text):
+        made = profile.made_in(f'like = "usim"\n{text}\n'.encode(), "card.toml")
+        return lint.read(made.text).card
+
+    def test_files_and_folders(self):
+        whole, card = self.card(""), self.card('without = ["EF_NETPAR", "7F20/5F3B", "EF.PLMNwAcT"]')
+        gone = {("7F20", "6FC4"), ("7F20", "5F3B"), ("7F20", "5F3B", "4F20"), ("7F20", "5F3B", "4F52"), ("7F20", "6F60")}
+        self.assertEqual(set(whole.files) - set(card.files), gone)
+        self.assertEqual(list(checking.findings(card, "usim"))[:1], ["7F20/6FC4 EF.NETPAR is missing: network parameters"])
+
+    def test_no_file_of_the_profile(self):
+        """The rules that only such a file had aren't written."""
+        never = bytes.fromhex("9700")
+        found = [never in bytes(self.card(text).files[("2F06",)].content) for text in ("", 'without = ["EF_ICCID"]')]
+        self.assertEqual(found, [True, False])
+
+
 class Mistakes(unittest.TestCase):
     """Everyday mistakes: each is told with its line, what is wrong, and what would be right."""
     HEAD = 'like = "usim"\n'
@@ -321,7 +343,7 @@ class Mistakes(unittest.TestCase):
         ('[EF_SPN]\nrecords = ["00", "01"]\nlength = 1\ncount = 1', ["line 3: [EF_SPN] records: it has 2 records, and room for 1: `count = 2`"]),
         ('["7F10/6F99"]\nrecords = ["01"]\nlength = { a = 1 }\nfolder = true',
          ['line 4: ["7F10/6F99"] length is a table, and has to be a number from 1 to 255', 'line 5: ["7F10/6F99"] says `folder`, and the table of a DF']),
-        ("colour = 1", ["line 2: `colour` isn't known at the top of a profile: `like`, [pins], [default], [[applet]] and tables of files are"]),
+        ("colour = 1", ["line 2: `colour` isn't known at the top of a profile: `like`, `without`, [pins], [default], [[applet]] and tables of files are"]),
         ('EF_IMSI = "262019876543210"', ["line 2: `EF_IMSI` is text, and has to be a table: [EF_IMSI] and below it what the file holds"]),
         ('[pins]\nadm1 = { value = "1234" }', ["line 3: [pins] adm1 isn't known: it is called `adm`"]),
         ('[pins]\npuk1 = "12345678"', ["line 3: [pins] puk1 isn't known: the UNBLOCK PIN (PUK) stands with its PIN: "
@@ -366,6 +388,20 @@ class Mistakes(unittest.TestCase):
         ('[[applet]]\nkind = "table"\non = { locaton = ["show A"] }', ["line 2: [[applet]]: the applet on shelf 6: `locaton` is no event, but "
                                                                   "`location` is: "]),
         ('[EF_IMSI]\nimsi = "262019876543210"\n["7F20/6F07"]\nsize = 9', ['line 4: ["7F20/6F07"] is the same file as [EF_IMSI]']),
+        ('without = "EF_NETPAR"', ['line 2: without is text, and has to be a list of texts: without = ["EF_NETPAR"]']),
+        ('without = ["EF_GID1", "EF_FOO"]', ["line 2: without: EF_GID1 is no file of the template", "line 2: without: [EF_FOO] EF_FOO: no standard file"]),
+        ('without = ["EF_SPN"]\n[EF_SPN]\nspn = "A"', ["line 3: [EF_SPN] stands there, and `without` leaves it out"]),
+        ('[EF_SPN]\nwithout = ["EF_LI"]', ['line 3: [EF_SPN] without isn\'t known in a table: `without = ["EF_NETPAR"]` stands at the top of a profile']),
+        ('[EF_LI]\nabsent = true', ['line 3: [EF_LI] absent isn\'t known: `without = ["EF_NETPAR"]` at the top of a profile leaves files']),
+        ('[EF.IMSI]\nimsi = "262019876543210"\n[EF.SPN]\nspn = "A"',
+         ['line 2: [EF.IMSI]: a dot without quotes makes a table within another one: it is written [EF_IMSI], or ["EF.IMSI"]',
+          'line 4: [EF.SPN]: a dot without quotes makes a table within another one: it is written [EF_SPN], or ["EF.SPN"]']),
+        ('[EF_IMSI]\nsize = "9"\nshort = "7"', ["line 3: [EF_IMSI] size is text, and has to be a number from 1 to 32767: size = 9",
+                                              "line 4: [EF_IMSI] short is text, and has to be a number from 0 to 30: short = 7"]),
+        ('[EF_SMS]\nlength = "176"\nsize = "176"', ["line 3: [EF_SMS] length is text, and has to be a number from 1 to 255: length = 176",
+                                                   "line 4: [EF_SMS] size is text, and has to be a number from 1 to 32767: size = 17"]),
+        ('[pins.pin1]\nunblock = 12345678\n\nvalue = 1234', ["line 3: [pins] pin1: `unblock` is a number, and has to be text in quotes",
+                                                          "line 5: [pins] pin1: `value` is a number, and has to be text in quotes"]),
         ('[EF_IMSI]\nimsi = "1"\n[EF_ACC]\nacc = [10]', ["line 3: [EF_IMSI] imsi: an IMSI has 6 to 15 digits", "line 5: [EF_ACC] acc: an access "
                                                       "control class is 0 to 9"]),
     ]
@@ -603,6 +639,41 @@ class Command(unittest.TestCase):
             with open(script, encoding="utf-8") as there:
                 self.assertEqual(there.read(), mine)
             self.assertEqual(self.profile("build", given, "-o", script, "--force").returncode, 0)
+
+    def test_lines_that_were_changed_by_hand(self):
+        """A line of a script that somebody changed, took out or put in isn't lost where the script is built again; the profile's changes are no
+        such ones."""
+        with tempfile.TemporaryDirectory() as folder:
+            given, script = os.path.join(folder, "card.toml"), os.path.join(folder, "card.script")
+
+            def build(name, *words):
+                with open(given, "w", encoding="utf-8") as out:
+                    out.write(f'like = "usim"\n[EF_SPN]\nspn = "{name}"\n')
+                return self.profile("build", given, "-o", script, *words)
+
+            self.assertEqual(build("A").returncode, 0)
+            self.assertEqual(build("Ä").returncode, 0)
+            with open(script, encoding="utf-8") as built:
+                text = built.read()
+            lines = text.splitlines()
+            at = next(number for number, line in enumerate(lines, 1) if line.startswith("fill 7F206F46 "))
+            changes = [(text.replace("pin 01 31323334", "pin 01 35353535"), f" (the new script hasn't line {lines.index(PIN_LINE) + 1})"),
+                       (text.replace("# EF.SPN", "# mine, EF.SPN").replace(lines[at - 1], lines[at - 1][:-2] + "00"),
+                        f" (the new script hasn't lines {at - 2}, {at})"),
+                       (text.replace(lines[at - 1] + "\n", ""), ""),
+                       (text.replace("\nstart\n", "\n# mine\nstart\n"), f" (the new script hasn't line {len(lines)})")]
+            for mine, which in changes:
+                with self.subTest(which=which):
+                    self.assertNotEqual(mine, text)
+                    with open(script, "w", encoding="utf-8") as out:
+                        out.write(mine)
+                    done = build("Ä")
+                    self.assertEqual((done.returncode, done.stderr), (2, f"profile: nothing is written: {script} was changed by hand after it was "
+                                                                     f"built{which}; --force writes over it\n"))
+                    with open(script, encoding="utf-8") as there:
+                        self.assertEqual(there.read(), mine)
+                    self.assertEqual(build("Ä", "--force").returncode, 0)
+            self.assertEqual((build("B").returncode, build("B").returncode), (0, 0))
 
     def test_a_tree_is_whole(self):
         """What is decoded goes on in a next line, and of other bytes a line is shown, or all."""

@@ -251,7 +251,7 @@ class Reader(unittest.TestCase):
     IMAGES = [
         (b"", None, "it has 0 bytes"), (b"UICC\x02\x00".ljust(image.JOURNAL_SIZE, b"\xFF"), "pages", "is opened without --store pages"),
         (b"UICC\x02\x01".ljust(image.PAGES_SIZE, b"\xFF"), None, "--store pages opens it"),
-        (b"\xFF" * image.JOURNAL_SIZE, None, "begin with no card"), (None, None, "isn't there, and no SCRIPT says what it should hold"),
+        (b"\xFF" * image.JOURNAL_SIZE, None, "the memory is blank: all its bytes are FF"), (None, None, "isn't there, and no SCRIPT says what it should hold"),
     ]
 
     def test_images_that_hold_no_card(self):

@@ -71,6 +71,10 @@ TABLE = [
      "it is the current DF of channel 1"),
     ([VERIFY_ADM, "00E0000010620E8202412183026F5080027FFF8800", "00E0000010620E8202412183026F5180027FFF8800"], "6A84",
      "32,767 bytes are wanted, and 26,207 are free"),
+    (["00A4040C0CA0000000871002FFFFFFFF89"], "6A82", "a card here has no ADF: the files of a USIM lie in 7F20, and those of an ISIM in 7FF2"),
+    (["00A4000C027FFF"], "6A82", "a card here has no ADF: the files of a USIM lie in 7F20, and those of an ISIM in 7FF2"),
+    (["00A4080C047FFF6F07"], "6A82", "a card here has no ADF: the files of a USIM lie in 7F20, and those of an ISIM in 7FF2"),
+    (["00A4000C026F07"], "6A82", None),
 ]
 
 

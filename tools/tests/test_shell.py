@@ -116,7 +116,8 @@ class Shell(unittest.TestCase):
     # the content of an image, the words after --image, and what is said
     IMAGES = [
         (None, [], "isn't there: name a script or a profile too, and its card is put into it"), (b"", [], "it has 0 bytes"),
-        (b"ef 2FE2 t 4 2 -\nstart\n", [], "it is no image of a card: it has 22 bytes"), (b"#" * 65_536, [], "the bytes begin with no card"),
+        (b"ef 2FE2 t 4 2 -\nstart\n", [], "it is no image of a card: it has 22 bytes"), (b"#" * 65_536, [], "it holds no card: it begins with 23 23 23 23"),
+        (b"\xFF" * 65_536, [], "the memory is blank: all its bytes are FF, and no card was made in it"),
         (b"UICC\x02\x00".ljust(image.JOURNAL_SIZE, b"\xFF"), ["--store", "pages"], "is opened without --store pages"),
         (b"UICC\x02\x01".ljust(image.PAGES_SIZE, b"\xFF"), [], "--store pages opens it"),
     ]

@@ -1,10 +1,12 @@
 """Many cards of one profile: a row of a list for each, with its numbers and PINs."""
+import codecs
 import collections
 import contextlib
 import csv
 import io
 import itertools
 import os
+import re
 import subprocess
 import typing
 
@@ -29,6 +31,8 @@ ABSENT = {**dict.fromkeys(("ki", "k", "op", "opc", "ki_enc", "eki"), NO_KEY),
           **{f"adm{number}": "a card here has the PINs pin1, pin2 and adm alone" for number in range(2, 10)}}
 # what two cards may not have alike, and what they should not
 ALIKE, HARDLY_ALIKE = ("iccid", "imsi"), ("unblock1", "unblock2", "adm")
+# columns of numbers so long that a spreadsheet may round them, and how it writes them then
+OF_NUMBERS, ROUNDED = ("iccid", "imsi", "msisdn", "adm"), re.compile(r"\d+(?:[.,]\d+)?[Ee]\+\d+")
 REPORT = "report.csv"
 # the ending of a file that isn't whole yet
 NEW = ".new"
@@ -100,7 +104,8 @@ def rows_in(content, name, ignored=()):
         text = content.decode("utf-8-sig")
     except UnicodeDecodeError as fault:
         line = content.count(b"\n", 0, fault.start) + 1
-        raise BadList(f"{name}, line {line}: it isn't UTF-8") from None
+        coding = "it is UTF-16" if content.startswith((codecs.BOM_UTF16_LE, codecs.BOM_UTF16_BE)) else "it isn't UTF-8"
+        raise BadList(f"{name}, line {line}: {coding}: a spreadsheet saves a list that is read here as `CSV UTF-8`") from None
     head = text.partition("\n")[0]
     delimiter = max(",;\t", key=head.count)
     reader, found, faults = csv.reader(io.StringIO(text, newline=""), delimiter=delimiter), [], []
@@ -134,6 +139,8 @@ def column_of(word):
 
 def check_columns(columns, name, left_out):
     """BadList, with all that is wrong with the first line of a list, but for columns that are left out."""
+    if any(column.lstrip("+").isdecimal() for column in columns):
+        raise BadList(f"{name}, line 1: the first line names the columns, as `iccid,imsi,pin1`, and this one has the numbers of a card")
     faults = [f"no column `{column}` stands there, which --ignore names" for column in sorted(left_out - set(columns))]
     columns = [column for column in columns if column not in left_out]
     faults += [fault for column in dict.fromkeys(columns) if (fault := about_column(column))]
@@ -158,7 +165,8 @@ def about_column(column):
         return f"{ABSENT[column]}: the column `{column}` has no place; `--ignore {column}` passes it over"
     if column in COLUMNS:
         return None
-    meant = SLIPS.get(column) or forms.near(column, list(COLUMNS))
+    plain = column.replace(" ", "").replace("_", "")
+    meant = SLIPS.get(plain) or ALSO.get(plain) or forms.near(plain, list(COLUMNS))
     return f"no column is called `{column}`, " + (f"but `{meant}` is" if meant else f"but {', '.join(COLUMNS)} are, and FILE:KEY, as EF_SMSP:centre")
 
 
@@ -204,8 +212,9 @@ def wrong_numbers(values):
         try:
             contents.encode_iccid(values["iccid"])
         except BadContent as fault:
-            rounded = ": a spreadsheet has rounded it, and its cells have to be of text" if "E+" in values["iccid"].upper() else ""
-            found["iccid"] = f"iccid `{values['iccid']}`: {fault}{rounded}"
+            found["iccid"] = f"iccid `{values['iccid']}`: {fault}"
+    found |= {column: f"{column} `{values[column]}`: a spreadsheet has rounded it, and its cells have to be of text"
+              for column in OF_NUMBERS if ROUNDED.fullmatch(values.get(column, ""))}
     if "acc" in values and not all(word.isdecimal() and word.isascii() and int(word) <= 15 for word in values["acc"].split()):
         found["acc"] = f"acc `{values['acc']}`: it is a class from 0 to 15, or several with spaces between them"
     return found

@@ -132,7 +132,6 @@ class Proactive:
 
 
 # what is said where a file of an ADF is asked for
-NO_ADF = "a card here has no ADF: the files of a USIM lie in 7F20, and those of an ISIM in 7FF2"
 
 
 def as_bytes(content):
@@ -388,7 +387,7 @@ class Card:
         for file in self.holds.children(path):
             if self._is_called(file.path, part):
                 return file.path
-        hint = f": {NO_ADF}" if names.is_adf(part) else ""
+        hint = f": {refusals.NO_ADF}" if names.is_adf(part) else ""
         raise NoSuchFile(f"{whole}: no file {part} lies in {names.shown(path)}{hint}")
 
     def _is_called(self, path, part):
@@ -399,7 +398,7 @@ class Card:
     def _named(self, part):
         found = [file.path for file in self.holds.files.values() if file.path and self._is_called(file.path, part)]
         if not found and names.is_adf(part):
-            raise NoSuchFile(f"{part}: {NO_ADF}")
+            raise NoSuchFile(f"{part}: {refusals.NO_ADF}")
         if len(found) != 1:
             raise NoSuchFile(f"{part}: {len(found) or 'no'} files are called so" + "".join(f", {names.shown(path)}" for path in found))
         return found[0]

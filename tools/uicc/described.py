@@ -33,7 +33,7 @@ def of(given) -> Source:
     with open(path, "rb") as file:
         content = file.read()
     # a text has no byte 00: such a file is an image, or what is left of one, of which is said what it lacks
-    return Source(IMAGE, path) if image.is_image(content) or b"\0" in content else Source(SCRIPT, path, content.decode(process.ENCODING))
+    return Source(IMAGE, path) if image.is_image(content) or image.is_blank_memory(content) or b"\0" in content else Source(SCRIPT, path, content.decode(process.ENCODING))
 
 
 def of_text(text) -> Source:

@@ -192,6 +192,8 @@ PLAIN = {
     HEX: Kind(HEX, TEXT, '"0102FF"', lambda value, _: structured.hexadecimal(value)),
     RECORDS: Kind(RECORDS, TEXTS, '["0102", "0304"]', lambda entry, _: structured.hexadecimal(entry), None, True),
 }
+# keys that stand at the top of a profile, and how they are written
+AT_TOP = {"like": '"usim"', "without": '["EF_NETPAR"]'}
 KEYS = list(dict.fromkeys([kind.key for kind in KINDS.values()] + list(PLAIN)))
 
 
@@ -209,8 +211,8 @@ def kind_for(key, entry):
 
 def about_unknown(key, entry):
     """What is said of a key that no file is told by."""
-    if key == "like":
-        return "isn't known in a table: `like = \"usim\"` stands at the top of a profile, before the first table"
+    if key in AT_TOP:
+        return f"isn't known in a table: `{key} = {AT_TOP[key]}` stands at the top of a profile, before the first table"
     own = KINDS.get(entry.get("content")) if entry else None
     meant = forms.near(key, KEYS)
     if own and (meant in (own.key, None) or key in getattr(own.form, "keys", ())):

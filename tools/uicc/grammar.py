@@ -14,6 +14,8 @@ MOST_COUNT = 999_999_999
 DEEPEST = 8
 RESERVED = ("3F00", "7FFF")
 PIN_KEYS = (0x01, 0x81, 0x0A)
+# what Notepad and other programs put before a text in UTF-8, one letter a byte
+BYTE_ORDER_MARK = "\xEF\xBB\xBF"
 ADMINISTRATOR = 0x0A
 LONGEST_TEXT = 30
 MOST_DIGITS = 20
@@ -237,7 +239,8 @@ def hexadecimal(name, word, most, exactly=None):
         other = re.search("[^0-9A-Fa-f]", word).group()
         raise Wrong(f"{name} has hexadecimal digits alone, and no `{other}`")
     if exactly is not None and len(word) != 2 * exactly:
-        raise Wrong(f"{name} is {exactly} bytes, which is {2 * exactly} digits, and not {len(word)}{in_characters(word, exactly)}")
+        plural = "" if exactly == 1 else "s"
+        raise Wrong(f"{name} is {exactly} byte{plural}, which is {2 * exactly} digits, and not {len(word)}{in_characters(word, exactly)}")
     if len(word) % 2 or not word:
         raise Wrong(f"{name} has an even number of digits, at least two, and not {len(word)}")
     if len(word) > 2 * most:
@@ -298,9 +301,10 @@ def read_rec(words):
 
 
 def read_pin(words):
-    key = hexadecimal("KEY", words.take("KEY"), 1, 1)[0]
-    if key not in PIN_KEYS:
-        raise Wrong(f"KEY is 01, 81 or 0A, not {key:02X}")
+    word = words.take("KEY")
+    if word.upper() not in (f"{key:02X}" for key in PIN_KEYS):
+        raise Wrong(f"KEY is 01, 81 or 0A, not {word.upper()}")
+    key = int(word, 16)
     value, switch = hexadecimal("VALUE", words.take("VALUE"), 8, 8), words.take("on or off")
     if switch not in ("on", "off"):
         raise Wrong(f"a PIN is on or off, not {switch}")
@@ -435,5 +439,7 @@ def statement(line):
 
 
 def about_unknown(word):
+    if word.startswith(BYTE_ORDER_MARK):
+        return f"a byte order mark, EF BB BF, stands before `{word.removeprefix(BYTE_ORDER_MARK)}`: a script is saved without one"
     near = difflib.get_close_matches(word.lower(), READERS, 1)
     return f"no line begins with `{word}`" + (f": {FORMS[near[0]]}" if near else "")

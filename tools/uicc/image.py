@@ -117,11 +117,23 @@ def is_image(content):
     return len(content) >= JOURNAL_SIZE and content[:4] == b"UICC"
 
 
+def is_blank_memory(content):
+    """Whether a file's bytes are a memory in which nothing was written."""
+    return len(content) in (JOURNAL_SIZE, PAGES_SIZE) and content.strip(content[:1]) == b"" and content[:1] in (b"\x00", b"\xFF")
+
+
+def no_beginning(image):
+    """Why no card begins in an image."""
+    if is_blank_memory(image):
+        return f"the memory is blank: all its bytes are {image[0]:02X}, and no card was made in it"
+    return f"it holds no card: it begins with {image[:4].hex(' ').upper()}, and a card with 55 49 43 43"
+
+
 def card_in(image):
     """The card that an image holds."""
     content = stable(image)
     if content[:4] != b"UICC":
-        raise NoCard("the bytes begin with no card")
+        raise NoCard(no_beginning(image))
     if content[4] not in LAYOUTS:
         raise NoCard(f"the image is of layout {content[4]}, and layouts {LAYOUTS[0]} and {LAYOUTS[-1]} are known here")
     card = Card()
@@ -142,6 +154,8 @@ def card_in(image):
 
 def sound_card_in(image):
     """The card that an image holds, where a script could describe it. NoCard, where bytes of it can't be a card's."""
+    if len(image) not in (JOURNAL_SIZE, PAGES_SIZE):
+        raise NoCard(f"it is no image of a card: it has {len(image):,} bytes, and an image has {JOURNAL_SIZE:,}, or {PAGES_SIZE:,}")
     try:
         card = card_in(image)
     except (ZeroDivisionError, IndexError):

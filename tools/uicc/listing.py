@@ -43,8 +43,9 @@ def file_lines(words=()):
     return in_columns([FILES_HEAD, *found]) if found else []
 
 
-def service_lines(kind):
-    """The services of a kind by their numbers, each with the files that it is for."""
+def service_lines(kind, words=()):
+    """The services of a kind by their numbers, each with the files that it is for; of these those whose line has all of the words, and
+    nothing where none has."""
     files = {}
     for entry in names.table("files")["files"]:
         for number in entry.get("needs", {}).get(kind, ()):
@@ -52,8 +53,10 @@ def service_lines(kind):
     table = [("service", f"in {HOLDERS[kind]}", "files")]
     for number, name in enumerate(names.table("files")[kind], 1):
         own = list(files.get(number, ()))
-        table.append((str(number), name, ", ".join(own[:MOST_FILES]) + ", .." * (len(own) > MOST_FILES)))
-    return in_columns(table)
+        text = " ".join((str(number), name, *own)).lower()
+        if all(word.lower().replace(".", "_") in text for word in words):
+            table.append((str(number), name, ", ".join(own[:MOST_FILES]) + ", .." * (len(own) > MOST_FILES)))
+    return in_columns(table) if len(table) > 1 else []
 
 
 def in_columns(table):

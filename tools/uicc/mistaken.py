@@ -36,7 +36,7 @@ class Mistaken(Exception):
 
 def kind_of(content):
     """Of which kind a file's bytes are; None where they show none."""
-    if content[:4] == b"UICC" or len(content) in (image.JOURNAL_SIZE, image.PAGES_SIZE) and b"\0" in content:
+    if content[:4] == b"UICC" or image.is_blank_memory(content) or len(content) in (image.JOURNAL_SIZE, image.PAGES_SIZE) and b"\0" in content:
         return IMAGE
     content = content.removeprefix(BYTE_ORDER_MARK)
     lines = (line.strip() for line in content.splitlines())

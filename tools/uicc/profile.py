@@ -99,8 +99,29 @@ def laid_over_template(given):
             base = template(like)
         except BadProfile as bad:
             faults += bad.faults
-    own = {name: value for name, value in given.items() if name != "like"}
+    base, more = without_files(base, given.get("without", []), given)
+    own = {name: value for name, value in given.items() if name not in ("like", "without")}
+    faults += more
     return merged(with_own_rules(base, given), own, faults), faults
+
+
+def without_files(base, left_out, given):
+    """A template without the files that a profile leaves out, and what is wrong with that. Of a DF all files in it go."""
+    faults = [Fault(("without",), f"{forms.about('without', wrong)}: without = [\"EF_NETPAR\"]") for wrong in forms.TEXTS.faults(left_out)]
+    for word in left_out if not faults else ():
+        try:
+            path = path_of(word)
+        except BadProfile as bad:
+            faults.append(Fault(("without",), f"without: {bad}"))
+            continue
+        gone = [name for name, value in base.items() if is_file_table(name, value) and path_of(name)[:len(path)] == path]
+        named = next((name for name, value in given.items() if is_file_table(name, value) and path_or_none(name) == path), None)
+        if named:
+            faults.append(Fault((named,), f"{shown_name(named)} stands there, and `without` leaves it out"))
+        elif not gone:
+            faults.append(Fault(("without",), f"without: {dump.printable(word)} is no file of the template"))
+        base = {name: value for name, value in base.items() if name not in gone}
+    return base, faults
 
 
 def with_own_rules(base, given):
@@ -196,7 +217,8 @@ def judged(profile, is_part=False, own=()):
     for name, value in tables:
         found = list(faults_of_file(name, value, usim))
         faults += found + list(faults_beside(name, value, found, usim))
-    builder = Builder(without(profile, [fault.path for fault in faults]), usim)
+    nameless = [(name,) for name, _ in tables if path_or_none(name) is None]
+    builder = Builder(without(profile, [fault.path for fault in faults] + nameless), usim)
     builder.build()
     faults += [fault for fault in builder.faults if is_own(fault, faults, is_part)]
     script = lint.read("".join(line + "\n" for line in builder.lines))

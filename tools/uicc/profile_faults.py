@@ -16,8 +16,10 @@ OF_FILE = {
 }
 SHAPE = "`size` makes a file transparent, `length` and `count` one with records, and `cyclic = true` a cyclic one"
 BY_ADM = "{} asks for the administrator's PIN, and no rule of a file says otherwise"
+LEFT_OUT = '`without = ["EF_NETPAR"]` at the top of a profile leaves files of the template out'
 # what is meant by other words for those
 SLIPS = {
+    **dict.fromkeys(("absent", "remove", "removed", "exclude"), LEFT_OUT),
     "write": "it is called `update`", "search": "who may read may search too: `read`", "invalidate": "it is called `deactivate`",
     "rehabilitate": "it is called `activate`", "delete": BY_ADM.format("DELETE FILE"), "create": BY_ADM.format("CREATE FILE"),
     "resize": BY_ADM.format("RESIZE FILE"), "sfi": "it is called `short`", "structure": SHAPE, "type": SHAPE, "record_length": "it is called `length`",
@@ -38,10 +40,13 @@ APPLET = forms.TableOf({"kind": forms.TEXT, "shelf": forms.Bounded(0, layout.SHE
 # the keys at the top of a profile that name no file, and how they are written
 AT_TOP = {
     "like": (forms.TEXT, 'like = "usim"'),
+    "without": (forms.TEXTS, 'without = ["EF_NETPAR"]'),
     "pins": (PINS, '[pins] and below it pin1 = { value = "1234", unblock = "12345678" }'),
     "default": (DEFAULT, '[default] and below it read = "always"'),
     "applet": (forms.ListOf(APPLET, "tables"), '[[applet]] and below it kind = "greeter"'),
 }
+# what stands before the dot of a file's name
+NAMES_BEFORE_A_DOT = ("EF", "DF", "ADF")
 # how the keys in those tables are written
 EXAMPLES = {
     **{key: '{ value = "1234", unblock = "12345678" }' for key in PIN_KEYS}, "adm": '{ value = "88888888" }',
@@ -69,7 +74,7 @@ def about_top(name, value):
         return f"`{name}` isn't known at the top of a profile: `{meant}` is"
     if name.upper().startswith(("EF", "DF")) or dump.is_identifier(name):
         return f"`{name}` is {forms.called(value)}, and has to be a table: {shown_name(name)} and below it what the file holds"
-    return f"`{name}` isn't known at the top of a profile: `like`, [pins], [default], [[applet]] and tables of files are"
+    return f"`{name}` isn't known at the top of a profile: `like`, `without`, [pins], [default], [[applet]] and tables of files are"
 
 
 def faults_of_table(name, value, form, example):
@@ -87,12 +92,25 @@ def faults_of_part(head, value, form, example):
             yield (), dump.printable(f"{forms.about(head.strip('[]'), wrong)}: {example}")
         return
     for key, each in value.items():
-        for wrong in form.faults_of_key(key, each):
-            yield (key,), dump.printable(forms.about(f"{head} {key}", wrong) + (f": {key} = {EXAMPLES[key]}" if key in EXAMPLES else ""))
+        for within, wrong in faults_of_key(form, key, each):
+            yield (key, *within), dump.printable(forms.about(f"{head} {key}", wrong) + (f": {key} = {EXAMPLES[key]}" if key in EXAMPLES else ""))
+
+
+def faults_of_key(form, key, value):
+    """What is wrong with a key of a table, and of a table in it with each of its keys, which leads to what is wrong."""
+    inner = form.keys.get(key)
+    if not isinstance(inner, forms.TableOf) or not isinstance(value, dict):
+        yield from (((), wrong) for wrong in form.faults_of_key(key, value))
+        return
+    for part, each in value.items():
+        yield from (((part,), f": {forms.about(f'`{part}`', wrong)}") for wrong in inner.faults_of_key(part, each))
 
 
 def faults_of_file(name, given, usim):
     """What is wrong with the table of a file."""
+    if name.upper() in NAMES_BEFORE_A_DOT and any(isinstance(each, dict) for each in given.values()):
+        yield from (Fault((name, key), dump.printable(about_dot(name, key))) for key in given)
+        return
     try:
         path = path_of(name)
     except BadProfile as bad:
@@ -100,6 +118,11 @@ def faults_of_file(name, given, usim):
         return
     entry = names.file(path, usim)
     yield from (Fault((name, *keys), f"{shown_name(name)} {reason}") for keys, reason in faults_of_keys(path, given, entry))
+
+
+def about_dot(name, key):
+    """What is said of a file's name with a dot that stands in no quotes: TOML has a table in another one there."""
+    return f"[{name}.{key}]: a dot without quotes makes a table within another one: it is written [{name}_{key}], or [\"{name}.{key}\"]"
 
 
 def faults_of_keys(path, given, entry):
@@ -114,6 +137,7 @@ def faults_of_keys(path, given, entry):
     for key, value in given.items():
         if key in OF_FILE:
             form, example = OF_FILE[key]
+            example = standard_example(key, entry) or example
             found = form.faults(value)
         elif key in fields.KEYS:
             found, example = faults_of_content(key, value, entry)
@@ -126,6 +150,13 @@ def faults_of_keys(path, given, entry):
     words = [key for key in OPERATIONS if key in given]
     if "rule" in given and words:
         yield ("rule",), f"says who may do what by `rule` and by {', '.join(words)}, and one of them does"
+
+
+def standard_example(key, entry):
+    """What the standard has for a key of a file's shape, as text; None where it has nothing."""
+    fits = entry and (key == "short" or key == "size" and entry.get("structure") == "t" or key == "length" and entry.get("structure") in ("l", "c"))
+    found = entry.get("short" if key == "short" else "length") if fits else None
+    return str(found) if found else None
 
 
 def is_folder(path, entry):

@@ -13,7 +13,7 @@ ARR = ("2F06",)
 PIN_LIKE = re.compile(r"(?i)(?:^|_|\.)(?:pin|chv|puk|adm)\d?$")
 PATH_OTHERWISE = re.compile(r"[0-9A-Fa-f]{4}([.\\:_ -]?[0-9A-Fa-f]{4})+")
 # the keys at the top of a profile that name no file
-TOP = ("like", "pins", "default", "applet")
+TOP = ("like", "without", "pins", "default", "applet")
 
 
 class Fault(typing.NamedTuple):

@@ -1,10 +1,13 @@
 """Why a card refuses a command: which condition of the access rule isn't met (6982), which of their causes 6985, 6A84 and 6A89
-have, and which object of CREATE FILE has no place (6A80)."""
+have, which object of CREATE FILE has no place (6A80), and that a SELECT asks for an ADF (6A82, 6A86)."""
 import re
 
 from . import decode, follow, layout, names, rules, tlv
 
-STATUSES = ("6700", "6982", "6985", "6A80", "6A84", "6A89", "6B00")
+STATUSES = ("6700", "6982", "6985", "6A80", "6A82", "6A84", "6A86", "6A89", "6B00")
+NO_ADF = "a card here has no ADF: the files of a USIM lie in 7F20, and those of an ISIM in 7FF2"
+# P1 of a SELECT by a DF name (AID), and the identifier of the ADF that is active
+BY_NAME, ACTIVE_ADF = 0x04, bytes.fromhex("7FFF")
 KEY_WORD = r"\b(?:" + "|".join(rules.KEYS) + r")\b"
 ADM = 0x0A
 DEACTIVATE, ACTIVATE, ENABLE = 0x04, 0x44, 0x28
@@ -32,7 +35,16 @@ def reason(follower, apdu, status, card=None):
         return of_offset(follower, apdu, card)
     if status == "6A89":
         return of_doubles(follower, apdu, card)
+    if status in ("6A82", "6A86"):
+        return NO_ADF if asks_for_adf(apdu) else None
     return of_form(apdu, status)
+
+
+# 6A82 and 6A86
+
+def asks_for_adf(apdu):
+    """Whether a SELECT is of an ADF: by its AID, or by a path that begins with 7FFF."""
+    return apdu.ins == decode.SELECT and (apdu.p1 == BY_NAME or apdu.data.startswith(ACTIVE_ADF))
 
 
 # 6982

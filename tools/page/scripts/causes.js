@@ -1,8 +1,8 @@
 // Why a command was refused, where its status word stands for several causes: which condition of the access rule isn't met (6982),
-// which condition of use (6985), and of what there is no room (6A84).
+// which condition of use (6985), of what there is no room (6A84), and that a SELECT asks for an ADF (6A82, 6A86).
 import { bigEndian } from "./bytes.js";
 import {
-    CHANNEL, CREATE_FILE, DELETE_FILE, ENABLE_PIN, FETCH, GET_RESPONSE, INSTALL, RESIZE_FILE, RESPONSE, newFile,
+    CHANNEL, CREATE_FILE, DELETE_FILE, ENABLE_PIN, FETCH, GET_RESPONSE, INSTALL, RESIZE_FILE, RESPONSE, SELECT, newFile,
 } from "./decode.js";
 import { ON_CHILDREN } from "./follow.js";
 import { ALL_BYTES, CALL_CONTROL, LOWER_SHELVES, MOST_FILES, MOST_MENU_ENTRIES, NARROW_KEPT, WIDE_BYTES, installation, needsWide } from "./layout.js";
@@ -10,6 +10,10 @@ import { keyName, shownPath } from "./names.js";
 import { NoRule, conditionWords, holds, keysIn, operationsOf, ruleIn } from "./rules.js";
 
 const ADM1 = 0x0a;
+const NO_ADF = "a card here has no ADF: the files of a USIM lie in 7F20, and those of an ISIM in 7FF2";
+// P1 of a SELECT by a DF name (AID), and the identifier of the ADF that is active
+const BY_NAME = 0x04;
+const ACTIVE_ADF = 0x7fff;
 
 function whyNoAccess(apdu, path, follower) {
     if (apdu.isOnApplets || ON_CHILDREN.includes(apdu.ins)) {
@@ -132,6 +136,11 @@ function whyNoRoomForApplet(apdu, card) {
 }
 
 // Why a command was answered so, by what was followed up to it; null where the status word says all, or nothing more is known.
+// Whether a SELECT is of an ADF: by its AID, or by a path that begins with 7FFF.
+function asksForAdf(apdu) {
+    return apdu.ins === SELECT && (apdu.p1 === BY_NAME || bigEndian(apdu.data.slice(0, 2)) === ACTIVE_ADF);
+}
+
 export function causeOf(apdu, status, path, follower) {
     if (!apdu.isCommand) {
         return null;
@@ -140,6 +149,8 @@ export function causeOf(apdu, status, path, follower) {
         case "6982": return whyNoAccess(apdu, path, follower);
         case "6985": return whyNotUsed(apdu, path, follower);
         case "6A84": return whyNoRoom(apdu, follower);
+        case "6A82":
+        case "6A86": return asksForAdf(apdu) ? NO_ADF : null;
         default: return null;
     }
 }

@@ -122,7 +122,8 @@ function hexadecimal(name, word, most, exactly = null) {
     }
     const length = word.length / 2;
     if (exactly !== null && length !== exactly) {
-        throw new Wrong(`${name} is ${exactly} bytes, which is ${2 * exactly} digits, and not ${length}`);
+        const bytes = exactly === 1 ? "byte" : "bytes";
+        throw new Wrong(`${name} is ${exactly} ${bytes}, which is ${2 * exactly} digits, and not ${word.length}`);
     }
     if (length > most) {
         throw new Wrong(`${name} has at most ${most} bytes, and not ${length}`);
@@ -178,9 +179,10 @@ function readEf(words) {
 }
 
 function readPin(words) {
-    const key = byte("KEY", words.take("KEY"));
-    if (!PIN_KEYS.includes(key)) {
-        throw new Wrong(`KEY is 01, 81 or 0A, not ${key.toString(16).toUpperCase().padStart(2, "0")}`);
+    const word = words.take("KEY").toUpperCase();
+    const key = PIN_KEYS.find((known) => known.toString(16).toUpperCase().padStart(2, "0") === word);
+    if (key === undefined) {
+        throw new Wrong(`KEY is 01, 81 or 0A, not ${word}`);
     }
     const value = hexadecimal("VALUE", words.take("VALUE"), 8, 8);
     const state = words.take("on or off");
@@ -306,6 +308,9 @@ function statement(line) {
     const words = new Words(line);
     const word = words.take("the first word");
     if (!Object.hasOwn(READERS, word)) {
+        if (word.startsWith("\ufeff")) {
+            throw new Wrong(`a byte order mark stands before \`${word.slice(1)}\`: a script is saved without one`);
+        }
         const near = word.toLowerCase();
         throw new Wrong(`no line begins with \`${word}\`${Object.hasOwn(FORMS, near) ? `: ${FORMS[near]}` : ""}`);
     }

@@ -34,8 +34,42 @@ function decoded(bytes, kind) {
     }
 }
 
+// The first line of a text that is neither empty nor a comment.
+function firstLine(text) {
+    return linesOf(text).map((line) => line.trim()).find((line) => line && !line.startsWith("#")) ?? "";
+}
+
+// What a text is that is no script; null where its first line shows none of these.
+function otherKind(text) {
+    const first = firstLine(text);
+    if (/^(?:\[|[\w"'.-]+[ \t]*=)/.test(first)) {
+        return "it is a profile, of which tools/profile build makes a script";
+    }
+    if (first.split(/[,;\t]/).some((cell) => cell.replaceAll(/[ "]/g, "").toLowerCase() === "iccid")) {
+        return "it is a list of cards, of which tools/profile batch makes scripts";
+    }
+    return /^(?:[<>] [\dA-Fa-f]+|! (?:reset|cut|off)|@ \d+\.\d{6})$/.test(first) ? "it is a trace, which `Load` of the trace takes" : null;
+}
+
 export async function scriptIn(file) {
-    return decoded(await bytesIn(file, MOST_BYTES, "a script"), "a script");
+    const text = decoded(await bytesIn(file, MOST_BYTES, "a script"), "a script");
+    const other = otherKind(text);
+    if (other) {
+        throw new NotLoaded(other);
+    }
+    return text;
+}
+
+// What a script is played to: a card where it sends commands itself, a handset where it says what happens at one, and a new card where it
+// describes one. Where none of its lines says so, what it was before.
+export function modeFor(script, mode) {
+    const lines = linesOf(script);
+    const has = (words) => lines.some((line) => words.includes(line.split(" ")[0]));
+    const sends = has(["apdu", "tpdu"]);
+    if (has(["user", "net", "time"]) && !sends) {
+        return "phone";
+    }
+    return (sends && mode === "phone") || (mode === "open" && has(["df", "ef", "pin", "row"])) ? "play" : mode;
 }
 
 // The lines of a trace.
@@ -70,6 +104,9 @@ export function whyNotOpened(image, { status, trace }) {
     const size = isOfSize ? "" : `; it has ${counted(image.length)} bytes, and a memory has ${sizes}`;
     const [, place] = trace.at(-1)?.match(/^not a card (\d+)$/) ?? [];
     const [, applet] = trace.at(-1)?.match(/^no applet (\d+)$/) ?? [];
+    if (isOfSize && image.every((byte) => byte === image[0]) && [0x00, 0xff].includes(image[0])) {
+        return `no card is in it: the memory is blank, all its bytes are ${image[0] ? "FF" : "00"}`;
+    }
     if (place !== undefined) {
         return `no card is in it: byte ${counted(Number(place))} isn't as a card has it${size}`;
     }

@@ -10,7 +10,7 @@ import { History } from "./history.js";
 import { cardIn, changesBetween, entriesOf } from "./image.js";
 import { linkOf, linked } from "./link.js";
 import { Script } from "./lint.js";
-import { NotLoaded, memoryIn, scriptIn, storeOf, traceIn, whyNotOpened } from "./loading.js";
+import { NotLoaded, memoryIn, modeFor, scriptIn, storeOf, traceIn, whyNotOpened } from "./loading.js";
 import { memoryAfter, memoryAt } from "./memory.js";
 import { examples, madeFrom } from "./packed.js";
 import { NotRunnable, Runner, Stopped } from "./runner.js";
@@ -79,7 +79,7 @@ class Page {
         byId("save-image").addEventListener("click", () => save("card.img", this.played?.result.image ?? NOTHING));
         this.hearLoad("script", async (file) => {
             const script = await scriptIn(file);
-            this.replace(file.name, { script });
+            this.replace(file.name, { script, mode: modeFor(script, this.mode) });
         });
         this.hearLoad("trace", async (file) => this.showTrace(await traceIn(file), file.name));
         this.hearLoad("image", async (file) => this.goOnWith(await memoryIn(file), file.name));
