@@ -5,6 +5,7 @@ mod EntriesLemmas
 mod FilledLemmas
 mod HasRecordLemmas
 mod HeldByLemmas
+mod InARowLemmas
 pub mod KeepsLemmas
 mod PinsLemmas
 mod PreparesLemmas

@@ -6,4 +6,5 @@ pub mod Pins
 pub mod Prepared
 pub mod PreparedCommits
 pub mod Ranges
+pub mod Reading
 pub mod Rows
