@@ -56,7 +56,7 @@ fn has_status_parameters(command: &Command<'_>) -> bool
 }
 
 // The file that SELECT names: by an identifier, as the DF above, or by a path. Nothing is selected by an AID.
-#[tactic(auto, unfolding(file_model::specs::Selections::chosen))]
+#[tactic(auto, using(file_tree::proofs::IsCardTableLemmas::files_are_full), unfolding(file_model::specs::Selections::chosen))]
 fn chosen(loaded: &Loaded, selection: &Selection, command: &Command<'_>) -> Option<Descriptor>
     requires table { IsCardTable loaded.now }
     requires length { has_select_length command.now ≡ true }
@@ -193,6 +193,7 @@ fn answer_status(
 }
 
 // Tells of the current DF, and has the answer in `out`, which is empty before.
+#[tactic(auto, using(file_tree::proofs::IsCardTableLemmas::files_are_full))]
 fn try_status(
     loaded: &Loaded,
     selection: &Selection,

@@ -79,7 +79,7 @@ pub fn is_deactivated(file: &Descriptor) -> bool
 /// The EF with this short file identifier in the current DF, or else the current EF. Refused where there is none. Inlined, what isn't asked of
 /// the file costs nothing.
 #[inline(always)]
-#[tactic(auto, unfolding(file_model::specs::Outcomes::addressed, file_model::specs::Chains::given))]
+#[tactic(auto, using(file_tree::proofs::IsCardTableLemmas::files_are_full), unfolding(file_model::specs::Outcomes::addressed, file_model::specs::Chains::given))]
 pub fn addressed(
     loaded: &Loaded,
     selection: &Selection,

@@ -5,6 +5,7 @@ mod EntriesLemmas
 pub mod FilledLemmas
 mod HasRecordLemmas
 mod HeldByLemmas
+mod InARowLemmas
 pub mod KeepsLemmas
 mod PinsLemmas
 mod PreparesLemmas

@@ -1,5 +1,5 @@
 -- Which files, PINs and rows the calls are for; and the entries of a table, changed.
-use Rattle.std.specs.Prelude.{◌≡◌, ◌≢◌, ℕ, ◌+◌, ◌≤◌, ◌<◌, ◌==◌, true, IsTrue, if◌then◌else◌, List, map, IsSome, slice_get, slice_set, slice_index_or, IsSomeAnd}
+use Rattle.std.specs.Prelude.{◌≡◌, ◌≢◌, ℕ, ◌+◌, ◌*◌, ◌≤◌, ◌<◌, ◌==◌, true, IsTrue, if◌then◌else◌, List, map, IsSome, slice_get, slice_set, slice_index_or, IsSomeAnd}
 use Rattle.card_state.specs.declared.entries.Node.{Node}
 use Rattle.card_state.specs.declared.entries.PinSlot.{PinSlot}
 use Rattle.card_state.specs.declared.entries.Row.{Row}
@@ -33,6 +33,10 @@ HasRecord table number index width = HasFile table number (λ file. IsTrue (has_
 -- a linear fixed file with such a record
 abbrev pub HasLinearRecord : Loaded → ℕ → ℕ → ℕ → Type 0
 HasLinearRecord table number index width = HasFile table number (λ file. (file.kind ≡ linear_kind) × (index < file.count) × (file.width ≡ width))
+
+-- a linear fixed file, with so many bytes from record `index + 1` on
+abbrev pub HasLinearRecords : Loaded → ℕ → ℕ → ℕ → Type 0
+HasLinearRecords table number index size = HasFile table number (λ file. (file.kind ≡ linear_kind) × (index * file.width + size ≤ file.count * file.width))
 
 -- a cyclic file with records of so many bytes
 abbrev pub HasRing : Loaded → ℕ → ℕ → Type 0

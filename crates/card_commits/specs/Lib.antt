@@ -6,5 +6,6 @@ pub mod Pins
 pub mod Prepared
 pub mod PreparedCommits
 pub mod Ranges
+pub mod Reading
 pub mod Rows
 pub mod Writing

@@ -20,5 +20,5 @@ pub use files::{write_bytes, write_life, write_newest_record, write_record};
 pub use laws::{contents_are_whole, tables_tell_states};
 pub use pins::{PinChange, change_pin};
 pub use preparing::{prepare_blank, prepare_moved};
-pub use reading::{read_bytes, read_record};
+pub use reading::{read_bytes, read_record, read_records};
 pub use rows::{deregister, install_row, keep_bytes, register, remove_row};

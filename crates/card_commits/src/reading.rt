@@ -2,8 +2,10 @@
 ghost use Rattle.std.specs.Prelude.{◌≡◌, length, OnOk, IfSome, take, drop, slice_index_or, []};
 ghost use Rattle.uicc_types.specs.Counts.{raised};
 ghost use Rattle.card_state.specs.Memory.{IsMounted, Reads, held_by, memory};
+ghost use Rattle.file_model.specs.Files.{descriptors_of};
 ghost use Rattle.file_model.specs.Holdings.{bytes_in, records_in};
-ghost use Rattle.card_commits.specs.Entries.{HasBytes, HasRecord};
+ghost use Rattle.card_commits.specs.Entries.{HasBytes, HasRecord, HasLinearRecords};
+ghost use Rattle.card_commits.specs.Reading.{StandInARow};
 
 use crate::entries::{node_of, place_of_record};
 use card_state::{Loaded, standing_files_hold};
@@ -62,4 +64,31 @@ pub fn read_record<S: Store>(
     what_files_hold_is_read();
     let node = node_of(loaded, number);
     store.read(place_of_record(&node, index), out)
+}
+
+/// Reads records of a linear fixed file, from record `index + 1` on, into the whole of `out`. After a fault `out` holds any bytes.
+pub fn read_records<S: Store>(
+    store: &mut S,
+    loaded: &Loaded,
+    number: u8,
+    index: u8,
+    out: &mut [u8],
+) -> Result<(), StoreFault>
+    requires mounted { IsMounted (memory S.Store store.old loaded.now) }
+    requires file { HasLinearRecords loaded.now number index (length out.old) }
+    ensures read { OnOk result (IfSome (held_by S.Store store.old) (λ state.
+        StandInARow state (descriptors_of loaded.now) number index out.new)) }
+    ensures reads { Reads (memory S.Store store.old loaded.now) (memory S.Store store.new loaded.now) result }
+    // The store is read once, also where that meets a fault.
+    ensures once { S.reads store.new ≡ raised (S.reads store.old) }
+{
+    // These calls are laws, and do nothing.
+    files_are_found();
+    cards_are_known();
+    standing_files_hold();
+    stores_stand();
+    what_files_hold_is_read();
+    let node = node_of(loaded, number);
+    let at = usize::from(node.place) + usize::from(index) * usize::from(node.length);
+    store.read(at, out)
 }

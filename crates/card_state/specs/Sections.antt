@@ -242,6 +242,10 @@ ef_added state path shape short rule =
     let added = with_file state (new_ef state df (id_for path) shape short rule) in
     if_good (is_new_path state.files path && is_shape shape && is_new_short state.files df.number short && is_rule rule) (files_fit added) added)
 
+-- bytes that a line can spell: 1 to 255
+abbrev pub are_of_line : List ℕ → Bool
+are_of_line bytes = nat_le 1 (length bytes) && nat_le (length bytes) 255
+
 -- bytes inside a transparent file
 abbrev pub bytes_filled : Persistent → ℕ → ℕ → List ℕ → Contents → Result Persistent SectionFault
 bytes_filled state number offset bytes (Bytes old) =
@@ -295,8 +299,10 @@ row_added state shelf priority content kind =
 abbrev pub line_added : Persistent → SectionLine → Result Persistent SectionFault
 line_added state (DfLine path) = df_added state path
 line_added state (EfLine path shape short rule) = ef_added state path shape short rule
-line_added state (FillLine path offset bytes) = if_file (file_at state.files mf path) (λ file. bytes_filled state file.number offset bytes file.contents)
-line_added state (RecordLine path number bytes) = if_file (file_at state.files mf path) (λ file. record_filled state file.number number bytes file.contents)
+line_added state (FillLine path offset bytes) =
+    if are_of_line bytes then if_file (file_at state.files mf path) (λ file. bytes_filled state file.number offset bytes file.contents) else Err Bad
+line_added state (RecordLine path number bytes) =
+    if are_of_line bytes then if_file (file_at state.files mf path) (λ file. record_filled state file.number number bytes file.contents) else Err Bad
 line_added state (PinLine key value enabled unblock) = pin_added state key value enabled unblock
 line_added state (RowLine shelf priority content kind) = row_added state shelf priority content kind
 

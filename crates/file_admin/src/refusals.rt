@@ -33,6 +33,7 @@ fn number_at(bytes: &[u8], at: usize) -> u16
 
 // ---- CREATE FILE
 
+#[tactic(auto, using(file_tree::proofs::IsCardTableLemmas::files_are_full))]
 fn has_id(loaded: &Loaded, df: u8, id: FileId) -> bool
     requires { IsCardTable loaded.now }
     ensures { result ≡ has_id (descriptors_of loaded.now) df id.0 }
@@ -40,6 +41,7 @@ fn has_id(loaded: &Loaded, df: u8, id: FileId) -> bool
     first_file(loaded, Wanted::Child { df, id }).is_some()
 }
 
+#[tactic(auto, using(file_tree::proofs::IsCardTableLemmas::files_are_full))]
 fn has_short(loaded: &Loaded, df: u8, short: u8) -> bool
     requires { IsCardTable loaded.now }
     ensures { result ≡ has_short (descriptors_of loaded.now) df short }
@@ -101,6 +103,7 @@ pub fn try_creation(
 // ---- the file that is named
 
 // The child of this DF whose identifier stands first in the data.
+#[tactic(auto, using(file_tree::proofs::IsCardTableLemmas::files_are_full))]
 fn child_named(loaded: &Loaded, df: u8, bytes: &[u8]) -> Option<Descriptor>
     requires table { IsCardTable loaded.now }
     requires long { 2 ≤ length bytes.now }

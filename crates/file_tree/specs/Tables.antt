@@ -1,11 +1,14 @@
 -- The table of a card, and the files in it.
-use Rattle.std.specs.Prelude.{◌≡◌, ◌≢◌, ℕ, ◌≤◌, ◌<◌, ◌==◌, ◌&&◌, Bool, false, List, [], ◌∷◌, All, Option, None, Some, slice_index_or}
+use Rattle.std.specs.Prelude.{◌≡◌, ◌≢◌, ℕ, ◌≤◌, ◌<◌, ◌==◌, ◌&&◌, Bool, false, IsTrue, List, [], ◌∷◌, All, Option, None, Some, slice_index_or}
 use Rattle.std.specs.Option.{option_or}
 use Rattle.card_state.specs.declared.entries.Node.{Node}
 use Rattle.card_state.specs.declared.entries.Loaded.{Loaded}
 use Rattle.card_state.specs.Blank.{unused_node}
+use Rattle.card_state.specs.Kinds.{has_records}
+use Rattle.card_state.specs.Holding.{HasFullRecords}
 use Rattle.card_state.specs.Persistent.{Persistent}
 use Rattle.card_state.specs.Standing.{Stands}
+use Rattle.card_state.specs.Used.{HasNode}
 use Rattle.file_model.specs.declared.descriptors.Descriptor.{Descriptor}
 use Rattle.file_model.specs.declared.descriptors.Wanted.{Wanted}
 use Rattle.file_model.specs.declared.descriptors.Wanted.TheVariants.{Number}
@@ -18,6 +21,10 @@ pub record IsCardTable (table : Loaded) : Type 0 where
   pub content : List ℕ
   pub state : Persistent
   pub stands : Stands store_mark content table state
+
+-- Each file that has records is full of them.
+pub record HasFullFiles (table : Loaded) : Type 0 where
+  pub full : (number : ℕ) (node : Node) → HasNode table number node → IsTrue (has_records node.kind) → HasFullRecords node
 
 -- a file is found by its number
 abbrev pub IsNumbered : List Descriptor → Descriptor → Type 0

@@ -5,7 +5,7 @@ ghost use Rattle.file_model.specs.declared.descriptors.Wanted.TheVariants.{Child
 ghost use Rattle.file_model.specs.Files.{descriptors_of, file_found};
 ghost use Rattle.file_model.specs.Selections.{parent_of, ids_of, chosen_by_identifier, chosen_by_path, chosen_above, current_ef};
 ghost use Rattle.file_model.specs.Access.{arr_found};
-ghost use Rattle.file_tree.specs.Tables.{HasNoneBetween, IsCardTable, IsNumbered, first_found};
+ghost use Rattle.file_tree.specs.Tables.{HasFullFiles, HasNoneBetween, IsCardTable, IsNumbered, first_found};
 
 use crate::laws::parents_come_first;
 use crate::searching::{first_by_id, first_file, first_with, has_all_nodes, only_file};
@@ -30,7 +30,7 @@ fn number_of(found: Option<Descriptor>) -> Result<u8, NotFound>
 /// The number of the file that SELECT by file identifier finds: of the MF, the current DF, the files in it, the DF that it
 /// lies in and the DFs beside it, the first that has the identifier. `NotFound` exactly where none has it.
 pub fn find(nodes: &Loaded, selection: &Selection, id: FileId) -> Result<u8, NotFound>
-    requires { IsCardTable nodes.now }
+    requires { HasFullFiles nodes.now }
     ensures { result_ok result ≡ option_map (λ file. file.number)
         (chosen_by_identifier (descriptors_of nodes.now) selection.now.df id) }
 {
@@ -40,7 +40,7 @@ pub fn find(nodes: &Loaded, selection: &Selection, id: FileId) -> Result<u8, Not
 /// The number of the file at a path, two bytes for each identifier, from the DF `from` on; an empty path names `from`.
 /// `NotFound` exactly where an identifier names no file in the DF before it, or one but the last no DF.
 pub fn by_path(nodes: &Loaded, from: u8, path: &[u8]) -> Result<u8, NotFound>
-    requires table { IsCardTable nodes.now }
+    requires files { HasFullFiles nodes.now }
     requires even { length path.now % 2 ≡ 0 }
     ensures { result_ok result ≡ option_map (λ file. file.number)
         (chosen_by_path (descriptors_of nodes.now) from (ids_of path.now)) }
@@ -51,7 +51,7 @@ pub fn by_path(nodes: &Loaded, from: u8, path: &[u8]) -> Result<u8, NotFound>
 /// The number of the EF in the DF `df` that has this short file identifier, 1 to 30. `NotFound` exactly where there is none,
 /// and for 0, which stands for none.
 pub fn by_short(nodes: &Loaded, df: u8, short: u8) -> Result<u8, NotFound>
-    requires { IsCardTable nodes.now }
+    requires { HasFullFiles nodes.now }
     ensures { result_ok result ≡ (if short == 0 then None else option_map (λ file. file.number)
         (file_found (descriptors_of nodes.now) (Short df short))) }
 {
@@ -63,7 +63,7 @@ pub fn by_short(nodes: &Loaded, df: u8, short: u8) -> Result<u8, NotFound>
 
 // The number of the DF that this one lies in; the MF lies in itself.
 fn parent_of(loaded: &Loaded, df: u8) -> u8
-    requires { IsCardTable loaded.now }
+    requires { HasFullFiles loaded.now }
     ensures { result ≡ parent_of (descriptors_of loaded.now) df }
 {
     match only_file(loaded, Wanted::Number(df), df) {
@@ -74,7 +74,7 @@ fn parent_of(loaded: &Loaded, df: u8) -> u8
 
 /// The file that SELECT by file identifier finds where this is the current DF.
 pub fn chosen_by_identifier(loaded: &Loaded, df: u8, id: FileId) -> Option<Descriptor>
-    requires { IsCardTable loaded.now }
+    requires { HasFullFiles loaded.now }
     ensures value { result ≡ chosen_by_identifier (descriptors_of loaded.now) df id }
     ensures numbered { IfSome result (IsNumbered (descriptors_of loaded.now)) }
 {
@@ -102,7 +102,7 @@ pub fn chosen_by_identifier(loaded: &Loaded, df: u8, id: FileId) -> Option<Descr
 
 // The DF that this one lies in, or one beside it, by its identifier, which no entry before this one has.
 fn chosen_beside(loaded: &Loaded, df: u8, id: FileId, from: u8) -> Option<Descriptor>
-    requires table { IsCardTable loaded.now }
+    requires files { HasFullFiles loaded.now }
     requires passed { HasNoneBetween loaded.now.nodes id.0 0 from }
     ensures value { result ≡ first_found (descriptors_of loaded.now)
         (Named (parent_of (descriptors_of loaded.now) df) id ∷ ChildDf
@@ -119,7 +119,7 @@ fn chosen_beside(loaded: &Loaded, df: u8, id: FileId, from: u8) -> Option<Descri
 
 /// The file at a path from this DF on.
 pub fn chosen_by_path(loaded: &Loaded, df: u8, path: &[u8]) -> Option<Descriptor>
-    requires table { IsCardTable loaded.now }
+    requires files { HasFullFiles loaded.now }
     requires even { length path.now % 2 ≡ 0 }
     ensures value { result ≡ chosen_by_path (descriptors_of loaded.now) df (ids_of path.now) }
     ensures numbered { IfSome result (IsNumbered (descriptors_of loaded.now)) }
@@ -142,7 +142,7 @@ pub fn chosen_by_path(loaded: &Loaded, df: u8, path: &[u8]) -> Option<Descriptor
 
 /// The DF that this one lies in; the MF lies in none.
 pub fn above(loaded: &Loaded, df: u8) -> Option<Descriptor>
-    requires { IsCardTable loaded.now }
+    requires { HasFullFiles loaded.now }
     ensures value { result ≡ chosen_above (descriptors_of loaded.now) df }
     ensures numbered { IfSome result (IsNumbered (descriptors_of loaded.now)) }
 {
@@ -154,7 +154,7 @@ pub fn above(loaded: &Loaded, df: u8) -> Option<Descriptor>
 
 /// The current EF, if there is one.
 pub fn current_ef(loaded: &Loaded, selection: &Selection) -> Option<Descriptor>
-    requires { IsCardTable loaded.now }
+    requires { HasFullFiles loaded.now }
     ensures value { result ≡ current_ef (descriptors_of loaded.now) selection.now }
     ensures numbered { IfSome result (IsNumbered (descriptors_of loaded.now)) }
 {
@@ -163,6 +163,7 @@ pub fn current_ef(loaded: &Loaded, selection: &Selection) -> Option<Descriptor>
 }
 
 /// The EF with this identifier in this DF, or else in the nearest DF above it that has one (9.2.7).
+#[tactic(auto, using(crate::proofs::IsCardTableLemmas::files_are_full))]
 pub fn nearest_ef(loaded: &Loaded, df: u8, id: FileId) -> Option<Descriptor>
     requires { IsCardTable loaded.now }
     ensures value { result ≡ arr_found (descriptors_of loaded.now) df id }

@@ -1,7 +1,7 @@
 //! The one search for a file.
 ghost use Rattle.std.specs.Prelude.{◌≡◌, ◌+◌, ◌<◌, ◌≤◌, length, false, IfSome};
 ghost use Rattle.file_model.specs.Files.{descriptor_of, descriptors_of, is_wanted, lies_in, file_found, node_at};
-ghost use Rattle.file_tree.specs.Tables.{AsksForId, AsksForNumber, AsksForShort, HasNoneBetween, IsCardTable, IsNumbered, is_there_and_wanted};
+ghost use Rattle.file_tree.specs.Tables.{AsksForId, AsksForNumber, AsksForShort, HasFullFiles, HasNoneBetween, IsNumbered, is_there_and_wanted};
 
 use crate::describing::descriptor_of;
 use card_state::kinds::{self, DF};
@@ -56,7 +56,7 @@ fn node_at(loaded: &Loaded, number: u8) -> &Node
 /// The file of an entry whose number every wanted file has, if there is one. Where it is called, what is wanted is known.
 #[inline(always)]
 pub fn only_file(loaded: &Loaded, wanted: Wanted, number: u8) -> Option<Descriptor>
-    requires table { IsCardTable loaded.now }
+    requires files { HasFullFiles loaded.now }
     requires only { AsksForNumber wanted number }
     ensures value { result ≡ file_found (descriptors_of loaded.now) wanted }
     ensures numbered { IfSome result (IsNumbered (descriptors_of loaded.now)) }
@@ -131,7 +131,7 @@ pub fn first_with(loaded: &Loaded, id: FileId) -> u8
 /// called, what is wanted is known.
 #[inline(always)]
 pub fn first_by_id(loaded: &Loaded, wanted: Wanted, id: FileId, from: u8) -> Option<Descriptor>
-    requires table { IsCardTable loaded.now }
+    requires files { HasFullFiles loaded.now }
     requires only { AsksForId wanted id.0 }
     requires passed { HasNoneBetween loaded.now.nodes id.0 0 from }
     ensures value { result ≡ file_found (descriptors_of loaded.now) wanted }
@@ -150,7 +150,7 @@ pub fn first_by_id(loaded: &Loaded, wanted: Wanted, id: FileId, from: u8) -> Opt
 // The same with a short file identifier.
 #[inline(always)]
 fn first_by_short(loaded: &Loaded, wanted: Wanted, short: u8) -> Option<Descriptor>
-    requires table { IsCardTable loaded.now }
+    requires files { HasFullFiles loaded.now }
     requires only { AsksForShort wanted short }
     ensures value { result ≡ file_found (descriptors_of loaded.now) wanted }
     ensures numbered { IfSome result (IsNumbered (descriptors_of loaded.now)) }
@@ -169,7 +169,7 @@ fn first_by_short(loaded: &Loaded, wanted: Wanted, short: u8) -> Option<Descript
 #[inline(always)]
 #[tactic(auto, using(crate::proofs::FirstFileLemmas::short_asks))]
 pub fn first_file(loaded: &Loaded, wanted: Wanted) -> Option<Descriptor>
-    requires { IsCardTable loaded.now }
+    requires { HasFullFiles loaded.now }
     ensures value { result ≡ file_found (descriptors_of loaded.now) wanted }
     ensures numbered { IfSome result (IsNumbered (descriptors_of loaded.now)) }
 {

@@ -143,9 +143,13 @@ fn kind_passes(kind: u8) -> bool
     kind == DF || is_ef(kind)
 }
 
+// Most files have other identifiers.
 fn has_id(node: &Node, other: &Node) -> bool
     ensures { result ≡ has_id_of node.now other.now }
 {
+    if other.id.0 != node.id.0 {
+        return false;
+    }
     are_siblings(node, other) && other.id.0 == node.id.0
 }
 

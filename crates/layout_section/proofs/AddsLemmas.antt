@@ -8,7 +8,7 @@ use Rattle.list_laws.specs.Patches.{patched}
 use Rattle.card_state.specs.declared.faults.SectionFault.{SectionFault}
 use Rattle.card_state.specs.declared.faults.SectionFault.TheVariants.{Bad, NoRoom}
 use Rattle.card_state.specs.Persistent.{Contents, Files, Bytes, Records, File, Pin, Registration, Persistent}
-use Rattle.card_state.specs.Sections.{if_good, if_file, bytes_filled, record_filled, refilled, with_contents, rows_fit, fits_wide, byte_total_of, needs_wide, with_row, new_row, is_new_row, is_call_control, has_text, Installation, if_installed}
+use Rattle.card_state.specs.Sections.{are_of_line, if_good, if_file, bytes_filled, record_filled, refilled, with_contents, rows_fit, fits_wide, byte_total_of, needs_wide, with_row, new_row, is_new_row, is_call_control, has_text, Installation, if_installed}
 use Rattle.card_state.specs.declared.installation.Installed.{Installed}
 use Rattle.card_state.specs.Installations.{registered, IsInstalled, ReadsInstallation}
 use Rattle.card_state.specs.AppletKinds.{IsAppletKind}
@@ -38,6 +38,13 @@ pub follows_ok : (good room : Bool) (state old new : Persistent) → good ≡ tr
 follows_ok true true state old new is fits same = (refl, same)
 follows_ok true false state old new is fits same = absurd (cc fits)
 follows_ok false room state old new is fits same = absurd (cc is)
+
+-- ---- bytes of a line
+
+in_line : (good : Bool) (outcome : Result Persistent SectionFault) (old new : Persistent) (result : Result (Unit {0}) SectionFault) → good ≡ true → Adds outcome old result new
+    → Adds (cond good outcome (Err Bad)) old result new
+in_line true outcome old new result is adds = adds
+in_line false outcome old new result is adds = absurd (cc is)
 
 -- ---- files
 
@@ -85,21 +92,23 @@ module _ (pins : List Pin) (rows : List Registration) (next : ℕ) where
   record_step (Bytes old) files new number index bytes result is = (is.0, ap put is.1)
   record_step (Records old) files new number index bytes result is = rewrite_step _ _ files new number result is
 
-  pub follows_fill : (found : Option File) (files new : List File) (number offset : ℕ) (bytes : List ℕ) (result : Result (Unit {0}) SectionFault) → IsFound files found (Some number)
+  pub follows_fill : (found : Option File) (files new : List File) (number offset : ℕ) (bytes : List ℕ) (result : Result (Unit {0}) SectionFault) → are_of_line bytes ≡ true → IsFound files found (Some number)
       → Rewrites files number (filled offset bytes (file_numbered files number).contents) result new
-      → Adds (if_file found (λ file. bytes_filled (put files) file.number offset bytes file.contents)) (put files) result (put new)
-  follows_fill None files new number offset bytes result found is = absurd found
-  follows_fill (Some file) files new number offset bytes result found is =
-      subst (λ (n : ℕ). Adds (bytes_filled (put files) n offset bytes file.contents) (put files) result (put new)) (sym found.own)
-      (fill_step file.contents files new number offset bytes result (subst (λ (f : File). Rewrites files number (filled offset bytes f.contents) result new) found.is is))
+      → Adds (cond (are_of_line bytes) (if_file found (λ file. bytes_filled (put files) file.number offset bytes file.contents)) (Err Bad)) (put files) result (put new)
+  follows_fill None files new number offset bytes result good found is = absurd found
+  follows_fill (Some file) files new number offset bytes result good found is =
+      in_line (are_of_line bytes) (bytes_filled (put files) file.number offset bytes file.contents) (put files) (put new) result good
+      (subst (λ (n : ℕ). Adds (bytes_filled (put files) n offset bytes file.contents) (put files) result (put new)) (sym found.own)
+      (fill_step file.contents files new number offset bytes result (subst (λ (f : File). Rewrites files number (filled offset bytes f.contents) result new) found.is is)))
 
-  pub follows_record : (found : Option File) (files new : List File) (number index : ℕ) (bytes : List ℕ) (result : Result (Unit {0}) SectionFault) → IsFound files found (Some number)
+  pub follows_record : (found : Option File) (files new : List File) (number index : ℕ) (bytes : List ℕ) (result : Result (Unit {0}) SectionFault) → are_of_line bytes ≡ true → IsFound files found (Some number)
       → Rewrites files number (with_record index bytes (file_numbered files number).contents) result new
-      → Adds (if_file found (λ file. record_filled (put files) file.number index bytes file.contents)) (put files) result (put new)
-  follows_record None files new number index bytes result found is = absurd found
-  follows_record (Some file) files new number index bytes result found is =
-      subst (λ (n : ℕ). Adds (record_filled (put files) n index bytes file.contents) (put files) result (put new)) (sym found.own)
-      (record_step file.contents files new number index bytes result (subst (λ (f : File). Rewrites files number (with_record index bytes f.contents) result new) found.is is))
+      → Adds (cond (are_of_line bytes) (if_file found (λ file. record_filled (put files) file.number index bytes file.contents)) (Err Bad)) (put files) result (put new)
+  follows_record None files new number index bytes result good found is = absurd found
+  follows_record (Some file) files new number index bytes result good found is =
+      in_line (are_of_line bytes) (record_filled (put files) file.number index bytes file.contents) (put files) (put new) result good
+      (subst (λ (n : ℕ). Adds (record_filled (put files) n index bytes file.contents) (put files) result (put new)) (sym found.own)
+      (record_step file.contents files new number index bytes result (subst (λ (f : File). Rewrites files number (with_record index bytes f.contents) result new) found.is is)))
 
 -- ---- rows
 

@@ -4,7 +4,7 @@ ghost use Rattle.std.specs.List.{list_all};
 ghost use Rattle.card_state.specs.Kinds.{df_kind};
 ghost use Rattle.card_state.specs.Checks.{is_free_id};
 ghost use Rattle.card_state.specs.Soundness.{mf};
-ghost use Rattle.card_state.specs.Sections.{bare_card, file_at, is_new_short, DfLine, EfLine, FillLine, RecordLine, PinLine, RowLine};
+ghost use Rattle.card_state.specs.Sections.{are_of_line, bare_card, file_at, is_new_short, DfLine, EfLine, FillLine, RecordLine, PinLine, RowLine};
 ghost use Rattle.card_state.specs.NewFiles.{rule_from};
 ghost use Rattle.card_state.specs.AppletKinds.{IsAppletKind};
 ghost use Rattle.layout_section.specs.Adding.{IsFound, AddsLine};
@@ -27,6 +27,15 @@ use uicc_types::{FileId, OutOfMemory, Pin8, Shelf};
 
 // With so many bytes of files there is room for the rows of a wide card.
 const WIDE_BYTES: usize = UPPER_ROWS as usize - DATA;
+
+// A line spells at most so many bytes, and at least one.
+const MOST_OF_LINE: usize = 255;
+
+fn are_of_line(bytes: &[u8]) -> bool
+    ensures { result ≡ are_of_line bytes.now }
+{
+    !bytes.is_empty() && bytes.len() <= MOST_OF_LINE
+}
 
 /// The files, PINs and rows that the lines of a section describe so far. It takes all its memory in `new`. A contract
 /// sees the persistent state of the card.
@@ -200,17 +209,20 @@ impl Section {
         Ok(())
     }
 
-    /// Puts bytes into a transparent file.
+    /// Puts bytes into a transparent file, as many as a line can spell.
     pub fn fill(&mut self, path: &[FileId], offset: u16, bytes: &[u8]) -> Result<(), SectionFault>
         ensures { AddsLine (FillLine path.now offset bytes.now) self.old result self.new }
     {
+        if !are_of_line(bytes) {
+            return Err(SectionFault::Bad);
+        }
         match self.files.find(path) {
             Some(number) => self.files.fill(number, offset, bytes),
             None => Err(SectionFault::Bad),
         }
     }
 
-    /// Puts a record, filled up with FF, into a record file.
+    /// Puts a record, filled up with FF, into a record file: as many bytes as a line can spell.
     pub fn set_record(
         &mut self,
         path: &[FileId],
@@ -219,6 +231,9 @@ impl Section {
     ) -> Result<(), SectionFault>
         ensures { AddsLine (RecordLine path.now number bytes.now) self.old result self.new }
     {
+        if !are_of_line(bytes) {
+            return Err(SectionFault::Bad);
+        }
         match self.files.find(path) {
             Some(file) => self.files.set_record(file, number, bytes),
             None => Err(SectionFault::Bad),

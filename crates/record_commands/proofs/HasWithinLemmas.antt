@@ -55,6 +55,18 @@ module _ (first : ℕ) (others : List ℕ) where
       passed_over room room held (omega arith) (λ k below. none k (omega arith) (omega (arith, below, within)))
       ∙ nothing_left (drop room held) (room - room) (omega arith)
 
+  nothing_there : (room : ℕ) (held : List ℕ) → ((k : ℕ) → k < length held → is_byte first (slice_index held k) ≡ true → ⊥) → has_within (first ∷ others) (take room held) ≡ false
+  nothing_there zero held without = no_length (length others)
+  nothing_there (suc room) [] without = no_length (length others)
+  nothing_there (suc room) (byte ∷ held) without =
+      other_byte byte (take room held) (without 0 (omega arith)) ∙ nothing_there room held (λ k below. without (suc k) (omega (arith, below)))
+
+  -- nor anywhere after it
+  pub nowhere : (held : List ℕ) → ((k : ℕ) → k < length held → is_byte first (slice_index held k) ≡ true → ⊥) → (at width : ℕ) → has_within (first ∷ others) (take width (drop at held)) ≡ false
+  nowhere held without zero width = nothing_there width held without
+  nowhere [] without (suc at) width = nothing_there width [] without
+  nowhere (byte ∷ held) without (suc at) width = nowhere held (λ k below. without (suc k) (omega (arith, below))) at width
+
   -- where the first one stands too far behind for the others to have room
   pub no_room_within : (room : ℕ) (held : List ℕ) (at : ℕ) → room ≤ length held → IsFirstByte (is_byte first) held (Some at)
       → room - at ≤ length others → has_within (first ∷ others) (take room held) ≡ false

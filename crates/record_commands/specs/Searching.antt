@@ -1,5 +1,5 @@
 -- The records of a search.
-use Rattle.std.specs.Prelude.{ℕ, ◌≤◌, ◌+◌, ◌-◌, Bool, true, false, List, [], reverse, slice_index_or}
+use Rattle.std.specs.Prelude.{◌≡◌, ℕ, ◌≤◌, ◌<◌, ◌+◌, ◌-◌, ◌*◌, Bool, true, false, List, [], reverse, take, drop, slice_index_or}
 use Rattle.std.specs.List.{range_with_len}
 use Rattle.card_state.specs.Persistent.{Persistent}
 use Rattle.file_model.specs.declared.descriptors.Descriptor.{Descriptor}
@@ -11,15 +11,20 @@ abbrev pub left_from : Bool → ℕ → ℕ → ℕ
 left_from true count from = count + 1 - from
 left_from false count from = from
 
--- the number of the next one, where so many are left
-abbrev pub number_left : Bool → ℕ → ℕ → ℕ
-number_left true count left = count + 1 - left
-number_left false count left = left
+-- of so many records from the first on, the number of the next one, where so many are left
+abbrev pub number_left : Bool → ℕ → ℕ → ℕ → ℕ
+number_left true first count left = first + (count - left)
+number_left false first count left = first + (left - 1)
 
 -- the numbers of the records that are still to be searched, forward or backward
-abbrev pub numbers_left : Bool → ℕ → ℕ → List ℕ
-numbers_left true count left = range_with_len (count + 1 - left) left
-numbers_left false count left = reverse (range_with_len 1 left)
+abbrev pub numbers_left : Bool → ℕ → ℕ → ℕ → List ℕ
+numbers_left true first count left = range_with_len (first + (count - left)) left
+numbers_left false first count left = reverse (range_with_len first left)
+
+-- where so many are left in the file, the number of the first of the next ones that are read together, which are so many
+abbrev pub first_left : Bool → ℕ → ℕ → ℕ → ℕ
+first_left true count left size = 1 + (count - left)
+first_left false count left size = 1 + (left - size)
 
 -- whether the bytes stand in the record with this number
 unfoldable pub is_match : Persistent → Descriptor → List ℕ → ℕ → Bool
@@ -28,3 +33,8 @@ is_match state file wanted number = has_within wanted (slice_index_or (records_i
 -- the number of a record of the file
 abbrev pub IsRecord : Descriptor → ℕ → Type 0
 IsRecord file number = (1 ≤ number) × (number ≤ file.count)
+
+-- these bytes are the records from this number on, one after the other
+abbrev pub AreRecords : Persistent → Descriptor → ℕ → ℕ → List ℕ → Type 0
+AreRecords state file first count bytes =
+    (k : ℕ) → k < count → take file.width (drop (k * file.width) bytes) ≡ slice_index_or (records_in state file.number) (first + k - 1) []

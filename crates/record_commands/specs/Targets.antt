@@ -1,6 +1,6 @@
 -- The file that a command on records works on, and the record.
-use Rattle.std.specs.Prelude.{◌≡◌, ◌≤◌, ℕ, true, not, ◌&&◌, ◌||◌, Bool, IsTrue, List, Option, IfSome}
-use Rattle.card_state.specs.Kinds.{has_records}
+use Rattle.std.specs.Prelude.{◌≡◌, ◌≤◌, ◌<◌, ◌+◌, ℕ, true, not, ◌&&◌, ◌||◌, Bool, IsTrue, List, Option, IfSome}
+use Rattle.card_state.specs.Kinds.{has_records, linear_kind}
 use Rattle.file_model.specs.declared.descriptors.Descriptor.{Descriptor}
 use Rattle.file_model.specs.declared.selections.Selection.{Selection}
 use Rattle.file_model.specs.Selections.{IsSelection}
@@ -28,6 +28,13 @@ pub record IsRecordOf (files : List Descriptor) (file : Descriptor) (number : �
   pub kind : IsTrue (has_records file.kind)
   pub from : 1 ≤ number
   pub to : number ≤ file.count
+
+-- records of such a file that stand one after the other: so many from this number on, or one alone
+pub record AreRecordsOf (files : List Descriptor) (file : Descriptor) (first count : ℕ) : Type 0 where
+  pub of : IsRecordOf files file first
+  pub some : 1 ≤ count
+  pub to : first + count ≤ file.count + 1
+  pub in_a_row : 1 < count → file.kind ≡ linear_kind
 
 -- a cyclic file among these
 pub record IsRing (files : List Descriptor) (file : Descriptor) : Type 0 where

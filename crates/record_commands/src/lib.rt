@@ -6,6 +6,7 @@ mod holding;
 mod increasing;
 mod laws;
 mod lives;
+mod matching;
 mod numbering;
 mod reading;
 mod searching;

@@ -1,20 +1,20 @@
 //! SEARCH RECORD.
-ghost use Rattle.std.specs.Prelude.{◌≡◌, ◌≢◌, ◌≤◌, ◌<◌, ◌+◌, [], ◌∷◌, ◌++◌, ◌==◌, All, if◌then◌else◌, IsTrue, IfOk, IfErr, IfSome, IsOk, OnOk, Some, Err, filter, length, take};
+ghost use Rattle.std.specs.Prelude.{◌≡◌, ◌≢◌, ◌≤◌, ◌<◌, ◌+◌, ◌==◌, All, if◌then◌else◌, IsTrue, IfOk, IfErr, IfSome, IsOk, Some, Err, length};
 ghost use Rattle.card_state.specs.Kinds.{has_records};
 ghost use Rattle.card_state.specs.Memory.{IsMounted, Reads, held_by, memory};
 ghost use Rattle.file_model.specs.Files.{descriptors_of};
 ghost use Rattle.file_model.specs.Selections.{IsSelection};
-ghost use Rattle.file_model.specs.Records.{file_to_search, has_within, has_search_parameters, match_pointer, number_to_search, numbers_matched, search_in, searched, short_in_p2};
+ghost use Rattle.file_model.specs.Records.{file_to_search, has_search_parameters, match_pointer, number_to_search, numbers_matched, search_in, searched, short_in_p2};
 ghost use Rattle.file_model.specs.Outcomes.{pointer_before, settled_file, worked_on};
 ghost use Rattle.card_commits.specs.Performing.{Performs};
 ghost use Rattle.file_tree.specs.Tables.{IsCardTable, IsNumbered};
 ghost use Rattle.binary_commands.specs.Commands.{IsInPlace};
 ghost use Rattle.binary_commands.specs.Ends.{EndsTry, EndsWell, GivesTried};
 ghost use Rattle.binary_commands.specs.Targets.{IsRefused};
-ghost use Rattle.record_commands.specs.Targets.{IsPointer, IsRecordOf, IsTarget};
-ghost use Rattle.record_commands.specs.Searching.{is_match, left_from, number_left, numbers_left, IsRecord};
+ghost use Rattle.record_commands.specs.Targets.{IsPointer, IsTarget};
+ghost use Rattle.record_commands.specs.Searching.{left_from, IsRecord};
 
-use crate::holding::read_into;
+use crate::matching::matches_of;
 use crate::numbering::absolute_record;
 use crate::targets::{Demand, Structure, mode_in, pointer_before, record_file, short_in};
 use access_rules::{Op, Verified};
@@ -23,52 +23,12 @@ use binary_commands::{is_allowed, settle, worked_on};
 use card_commits::tables_tell_states;
 use card_state::Loaded;
 use file_model::{Descriptor, Selection};
-use memchr::memchr;
 use store_form::{Store, StoreFault};
-use uicc_types::{Answer, AnswerData, Full, StatusWord};
+use uicc_types::{Answer, AnswerData, StatusWord};
 
 const FORWARD: u8 = 4;
 
 const BACKWARD: u8 = 5;
-
-// A record has at most so many bytes.
-const LONGEST_RECORD: usize = 255;
-
-// `memchr` looks at so many bytes at once, and at fewer one by one.
-const SEARCHED_AT_ONCE: usize = 32;
-
-// Whether a byte and the others stand one after the other in the first `width` bytes of what is held. The byte is looked for in
-// all that is held: where that is as much as is looked at at once, it is quicker than to look at less.
-fn stand_within(first: u8, others: &[u8], held: &[u8], width: usize) -> bool
-    requires { width ≤ length held.now }
-    ensures { result ≡ has_within (first ∷ others.now) (take width held.now) }
-{
-    let mut rest = held;
-    let mut room = width;
-    while let Some(at) = memchr(first, rest) {
-        if room.saturating_sub(at) <= others.len() {
-            return false;
-        }
-        let (_, behind) = rest.split_at(at + 1);
-        if behind.starts_with(others) {
-            return true;
-        }
-        rest = behind;
-        room -= at + 1;
-    }
-    false
-}
-
-// Whether bytes stand one after the other in the first `width` bytes of what is held.
-fn has_within(wanted: &[u8], held: &[u8], width: usize) -> bool
-    requires { width ≤ length held.now }
-    ensures { result ≡ has_within wanted.now (take width held.now) }
-{
-    match wanted.split_first() {
-        Some((first, others)) => stand_within(*first, others, held, width),
-        None => true,
-    }
-}
 
 fn has_parameters(command: &Command<'_>) -> bool
     ensures { result ≡ has_search_parameters command.now }
@@ -129,88 +89,6 @@ fn left_from(file: &Descriptor, is_forward: bool, from: u8) -> u8
     } else {
         from
     }
-}
-
-// The next record of a search that has so many before it.
-fn number_left(file: &Descriptor, is_forward: bool, left: u8) -> u8
-    requires some { 1 ≤ left }
-    requires few { left ≤ file.now.count }
-    ensures value { result ≡ number_left is_forward file.now.count left }
-    ensures record { IsRecord file.now result }
-{
-    if is_forward {
-        file.count - left + 1
-    } else {
-        left
-    }
-}
-
-fn push(found: &mut AnswerData, number: u8)
-    requires { length found.old < 256 }
-    ensures { found.new ≡ found.old ++ number ∷ [] }
-{
-    match found.push(number) {
-        Ok(()) => {}
-        Err(Full) => unreachable!(),
-    }
-}
-
-// Puts the number of the record after the others, if it matches. The record is read into `buffer`.
-#[tactic(auto, unfolding(crate::specs::Searching::is_match))]
-fn match_one<S: Store>(
-    store: &mut S,
-    loaded: &Loaded,
-    file: &Descriptor,
-    wanted: &[u8],
-    number: u8,
-    buffer: &mut [u8; LONGEST_RECORD],
-    found: &mut AnswerData,
-) -> Result<(), StoreFault>
-    requires mounted { IsMounted (memory S.Store store.old loaded.now) }
-    requires target { IsRecordOf (descriptors_of loaded.now) file.now number }
-    requires room { length found.old < 256 }
-    requires among { All (IsRecord file.now) found.old }
-    ensures found { OnOk result (IfSome (held_by S.Store store.old) (λ state.
-        found.new ≡ found.old ++ (if is_match state file.now wanted.now number then number ∷ [] else []))) }
-    ensures few { length found.new ≤ length found.old + 1 }
-    ensures among { All (IsRecord file.now) found.new }
-    ensures reads { Reads (memory S.Store store.old loaded.now) (memory S.Store store.new loaded.now) result }
-{
-    let width = usize::from(file.width);
-    read_into(store, loaded, file, number, &mut buffer[..width])?;
-    if has_within(wanted, &buffer[..width.max(SEARCHED_AT_ONCE)], width) {
-        push(found, number);
-    }
-    Ok(())
-}
-
-// The numbers of the records that match, of so many to the end of the search.
-fn matches_of<S: Store>(
-    store: &mut S,
-    loaded: &Loaded,
-    file: &Descriptor,
-    wanted: &[u8],
-    is_forward: bool,
-    count: u8,
-) -> Result<AnswerData, StoreFault>
-    requires mounted { IsMounted (memory S.Store store.old loaded.now) }
-    requires numbered { IsNumbered (descriptors_of loaded.now) file.now }
-    requires kind { IsTrue (has_records file.now.kind) }
-    requires few { count ≤ file.now.count }
-    ensures found { IfOk result (λ found. IfSome (held_by S.Store store.old) (λ state.
-        found ≡ filter (is_match state file.now wanted.now) (numbers_left is_forward file.now.count count))) }
-    ensures among { IfOk result (All (IsRecord file.now)) }
-    ensures reads { Reads (memory S.Store store.old loaded.now) (memory S.Store store.new loaded.now) result }
-{
-    let mut buffer = [0; LONGEST_RECORD];
-    let mut found = AnswerData::new();
-    let mut left = count;
-    while left > 0 {
-        let number = number_left(file, is_forward, left);
-        match_one(store, loaded, file, wanted, number, &mut buffer, &mut found)?;
-        left -= 1;
-    }
-    Ok(found)
 }
 
 // The numbers of the records that match, from this one on.

@@ -1,13 +1,14 @@
 -- Lines that describe a card add no row that is not of the kind of the box on its shelf.
-use Rattle.std.proofs.Common.{◌≡◌, ℕ, List, [], ◌∷◌, ◌++◌, Bool, true, false, Option, Some, None, Result, Ok, Err, refl, subst, arith, All, nat_lt, filter}
+use Rattle.std.proofs.Common.{◌≡◌, ℕ, List, [], ◌∷◌, ◌++◌, Bool, true, false, cond, Option, Some, None, Result, Ok, Err, refl, subst, arith, All, nat_lt, filter}
 use Rattle.std.proofs.lemmas.List.Elements.{All-append, All-cons, All-filter}
 use Rattle.uicc_types.specs.declared.identifiers.FileId.{FileId}
 use Rattle.script_form.specs.declared.lines.ScriptLine.{ScriptLine}
 use Rattle.script_form.specs.declared.lines.ScriptLine.TheVariants.{Passed, Start, Reset, Df, Transparent, Linear, Cyclic, Fill, Rec, Pin, Row, Apdu, Tpdu, Cut, Fail, ReadFail, UserOk, UserEnd, UserBack, UserNone, UserType, UserPick, UserPress, UserIdle, UserDial, NetPlace, NetPoll, Time, Cmd, Echo, Lose}
 use Rattle.card_state.specs.NewFiles.{rule_from}
 use Rattle.card_state.specs.Persistent.{Contents, Files, Bytes, Records, File, Registration, Persistent, Rule}
-use Rattle.card_state.specs.Sections.{Installation, bytes_filled, df_added, df_for, ef_added, id_for, if_df, if_file, if_good, if_installed, new_df, new_ef, record_filled, row_added, with_file, with_row}
+use Rattle.card_state.specs.Sections.{Installation, are_of_line, bytes_filled, df_added, df_for, ef_added, id_for, if_df, if_file, if_good, if_installed, new_df, new_ef, record_filled, row_added, with_file, with_row}
 use Rattle.card_state.specs.declared.faults.SectionFault.{SectionFault}
+use Rattle.card_state.specs.declared.faults.SectionFault.TheVariants.{Bad}
 use Rattle.card_state.specs.declared.shapes.Shape.{Shape}
 use Rattle.card_state.specs.declared.shapes.Shape.TheVariants as shape
 use Rattle.applet_trait.specs.Minds.{AppletState, kind_on}
@@ -33,6 +34,10 @@ in_df cast (Some df) known each = each df
 in_file : (cast : List (Option AppletState)) (file : Option File) (known : File → Result Persistent SectionFault) → ((file : File) → AreKept cast (known file)) → AreKept cast (if_file file known)
 in_file cast None known each = tt
 in_file cast (Some file) known each = each file
+
+in_line : (cast : List (Option AppletState)) (good : Bool) (outcome : Result Persistent SectionFault) → AreKept cast outcome → AreKept cast (cond good outcome (Err Bad))
+in_line cast true outcome kept = kept
+in_line cast false outcome kept = tt
 
 df_kept : (cast : List (Option AppletState)) (state : Persistent) (path : List FileId) → AreOfTheirBoxes cast state → AreKept cast (df_added state path)
 df_kept cast state path all = in_df cast (df_for state.files path) _ (λ df. good_kept cast _ _ (with_file state (new_df state df (id_for path))) all)
@@ -76,8 +81,8 @@ described_kept cast state (Df path) all = df_kept cast state path all
 described_kept cast state (Transparent path size short rule) all = ef_kept cast state path (shape.Transparent size) short (rule_from rule) all
 described_kept cast state (Linear path length count short rule) all = ef_kept cast state path (shape.Linear length count) short (rule_from rule) all
 described_kept cast state (Cyclic path length count short rule) all = ef_kept cast state path (shape.Cyclic length count) short (rule_from rule) all
-described_kept cast state (Fill path offset bytes) all = in_file cast _ _ (λ file. bytes_kept cast state file.number offset bytes file.contents all)
-described_kept cast state (Rec path number bytes) all = in_file cast _ _ (λ file. record_kept cast state file.number number bytes file.contents all)
+described_kept cast state (Fill path offset bytes) all = in_line cast (are_of_line bytes) _ (in_file cast _ _ (λ file. bytes_kept cast state file.number offset bytes file.contents all))
+described_kept cast state (Rec path number bytes) all = in_line cast (are_of_line bytes) _ (in_file cast _ _ (λ file. record_kept cast state file.number number bytes file.contents all))
 described_kept cast state (Pin key value enabled unblock) all = good_kept cast _ true _ all
 described_kept cast state (Row shelf priority content) all = row_kept cast state shelf priority content all
 described_kept cast state Start all = tt

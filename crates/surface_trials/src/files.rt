@@ -91,6 +91,7 @@ fn administered<S: Store>(
 }
 
 /// Whether a card without files has none that is found, and room after its entries.
+#[tactic(auto, using(file_tree::proofs::IsCardTableLemmas::files_are_full))]
 fn is_blank<S: Store>(store: &mut S, section: &Section) -> bool
     requires { S.byte_count store.old ≡ 65536 }
 {

@@ -120,10 +120,13 @@ impl<E: Eeprom> Store for Journal<E> {
         ensures left { E.contents self.new.device ≡ E.contents self.old.device }
     {
         self.reads = self.reads.saturating_add(1);
-        self.is_ready = false;
-        device::read(&mut self.counted, at, out)?;
-        self.is_ready = true;
-        Ok(())
+        match device::read(&mut self.counted, at, out) {
+            Ok(()) => Ok(()),
+            Err(fault) => {
+                self.is_ready = false;
+                Err(fault)
+            }
+        }
     }
 
     fn commit(&mut self, writes: &Writes) -> Result<(), StoreFault>

@@ -1,7 +1,6 @@
 use Rattle.std.proofs.Common.{◌≡◌, ℕ, true, Some, ap, ◌∙◌, sym, subst, arith}
 use Rattle.std.proofs.lemmas.Bool.{and_parts}
 use Rattle.card_state.specs.declared.entries.Node.{Node}
-use Rattle.card_state.proofs.HoldingLemmas.{records_are_full}
 use Rattle.file_model.specs.Files.{descriptor_of, descriptors_of}
 use Rattle.file_tree.specs.Tables.{IsNumbered}
 use Rattle.file_tree.proofs.FirstFileLemmas.{none_before, entry_found, no_entry_found, has_entry, entry_numbered, passes, entry_at}
@@ -9,7 +8,7 @@ use Rattle.file_tree.proofs.searching.first_by_id.Goals as goal
 
 pub descriptor_of-requires : goal.descriptor_of-requires
 descriptor_of-requires c =
-    rw c.node_at-node.ensures.value (records_are_full c.requires.table.store_mark c.requires.table.content c.args.loaded.now c.requires.table.state c.loop-number.number (entry_at c.args.loaded.now.nodes c.loop-number.number) c.requires.table.stands
+    rw c.node_at-node.ensures.value (c.requires.files.full c.loop-number.number (entry_at c.args.loaded.now.nodes c.loop-number.number)
     (has_entry c.args.loaded.now c.loop-number.number c.node_at-node.ensures.there (ap (λ (n : Node). n.used) (sym c.node_at-node.ensures.value) ∙ (and_parts _ _ (sym c.is_wanted_by_id.ensures ∙ c.if-is_wanted_by_id.true)).0)))
 
 pub returns-then-is_wanted_by_id-clause-value : goal.returns-then-is_wanted_by_id-clause-value

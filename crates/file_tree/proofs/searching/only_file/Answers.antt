@@ -1,7 +1,6 @@
 -- Each wanted file has this number, so the entries of other numbers fail, and the search of all finds this entry's file or none.
 use Rattle.std.proofs.Common.{◌≡◌, ℕ, Bool, true, false, Some, length, ap, ◌∙◌, sym, subst, arith, ◌&&◌}
 use Rattle.card_state.specs.declared.entries.Node.{Node}
-use Rattle.card_state.proofs.HoldingLemmas.{records_are_full}
 use Rattle.file_model.specs.Files.{descriptor_of, descriptors_of, is_wanted}
 use Rattle.file_tree.specs.Tables.{IsNumbered}
 use Rattle.file_tree.proofs.FirstFileLemmas.{entry_found, no_entry_found, has_entry, entry_numbered, other_fails, one_fails, passes, entry_at}
@@ -17,7 +16,7 @@ returns-then-from-ge-NODE_COUNT-clause-value c =
 
 pub descriptor_of-requires : goal.descriptor_of-requires
 descriptor_of-requires c =
-    rw c.node_at-node.ensures.value (records_are_full c.requires.table.store_mark c.requires.table.content c.args.loaded.now c.requires.table.state c.args.number (entry_at c.args.loaded.now.nodes c.args.number) c.requires.table.stands
+    rw c.node_at-node.ensures.value (c.requires.files.full c.args.number (entry_at c.args.loaded.now.nodes c.args.number)
     (has_entry c.args.loaded.now c.args.number c.node_at-node.ensures.there (ap (λ (n : Node). n.used) (sym c.node_at-node.ensures.value) ∙ c.if-node.true)))
 
 pub returns-then-is_wanted-clause-value : goal.returns-then-is_wanted-clause-value

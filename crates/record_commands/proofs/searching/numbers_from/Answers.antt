@@ -10,6 +10,6 @@ returns-clause-found g c =
     if_ok_from c.matches_of.result _ _ c.matches_of.ensures.found (λ found known.
     if_some (held_by g.S.Store c.args.store.now) _ (λ state is.
     if_some_at (held_by g.S.Store c.args.store.now) _ state known is
-    ∙ ap (λ (n : ℕ). filter (is_match state c.args.file.now c.command.inside.body.now) (numbers_left (c.mode_in-is_forward.result == 4) c.args.file.now.count n)) c.left_from-count.ensures.value
-    ∙ (λ i. filter (is_match state c.args.file.now (c.command.view_is i).body) (numbers_left (c.mode_in-is_forward.ensures i == 4) c.args.file.now.count (left_from (c.mode_in-is_forward.ensures i == 4) c.args.file.now.count c.args.from)))
+    ∙ ap (λ (n : ℕ). filter (is_match state c.args.file.now c.command.inside.body.now) (numbers_left (c.mode_in-is_forward.result == 4) 1 c.args.file.now.count n)) c.left_from-count.ensures.value
+    ∙ (λ i. filter (is_match state c.args.file.now (c.command.view_is i).body) (numbers_left (c.mode_in-is_forward.ensures i == 4) 1 c.args.file.now.count (left_from (c.mode_in-is_forward.ensures i == 4) c.args.file.now.count c.args.from)))
     ∙ matched_left state c.args.file.now c.args.command.now c.args.from c.requires.from))

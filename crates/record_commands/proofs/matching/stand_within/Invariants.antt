@@ -1,6 +1,6 @@
 use Rattle.std.proofs.Common.{◌≡◌, ◌≤◌, ◌∷◌, length, take}
 use Rattle.file_model.specs.Records.{has_within}
-use Rattle.record_commands.proofs.searching.stand_within.Given as goal
+use Rattle.record_commands.proofs.matching.stand_within.Given as goal
 
 abbrev pub invariant-loop-at : goal.invariant-loop-at
 invariant-loop-at l = record {

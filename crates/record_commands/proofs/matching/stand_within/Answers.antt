@@ -3,7 +3,7 @@ use Rattle.std.specs.List.{starts_with}
 use Rattle.std.proofs.lemmas.Bool.{or_left}
 use Rattle.file_model.specs.Records.{has_within}
 use Rattle.record_commands.proofs.HasWithinLemmas.{looked_at, no_room_within, none_within}
-use Rattle.record_commands.proofs.searching.stand_within.Goals as goal
+use Rattle.record_commands.proofs.matching.stand_within.Goals as goal
 
 pub returns-then-saturating_sub-others : goal.returns-then-saturating_sub-others
 returns-then-saturating_sub-others c =
