@@ -20,7 +20,7 @@ use uicc_types::{AnswerData, Full};
 // So many bytes are read together, or fewer; a record has no more.
 const BLOCK: usize = 255;
 
-// Whether a byte and the others stand one behind the other in the first `width` bytes of what is held. The byte is looked for in
+// Whether a byte and the others stand one after the other in the first `width` bytes of what is held. The byte is looked for in
 // all that is held: where that is as much as is looked at at once, it is quicker than to look at less.
 fn stand_within(first: u8, others: &[u8], held: &[u8], width: usize) -> bool
     requires { width ≤ length held.now }
@@ -42,7 +42,7 @@ fn stand_within(first: u8, others: &[u8], held: &[u8], width: usize) -> bool
     false
 }
 
-// Whether bytes stand one behind the other in the first `width` bytes of what is held.
+// Whether bytes stand one after the other in the first `width` bytes of what is held.
 fn has_within(wanted: &[u8], held: &[u8], width: usize) -> bool
     requires { width ≤ length held.now }
     ensures { result ≡ has_within wanted.now (take width held.now) }
@@ -137,7 +137,7 @@ fn push(found: &mut AnswerData, number: u8)
     }
 }
 
-// Puts the number of a record behind the others, if it matches.
+// Puts the number of a record after the others, if it matches.
 fn push_if_match(wanted: &[u8], held: &[u8], width: usize, number: u8, found: &mut AnswerData)
     requires long { width ≤ length held.now }
     requires room { length found.old < 256 }
@@ -149,7 +149,7 @@ fn push_if_match(wanted: &[u8], held: &[u8], width: usize, number: u8, found: &m
     }
 }
 
-// Puts the numbers of those of some records that match behind the others, in the order of the search. The records are read into `buffer`.
+// Puts the numbers of those of some records that match after the others, in the order of the search. The records are read into `buffer`.
 fn match_together<S: Store>(
     store: &mut S,
     loaded: &Loaded,
