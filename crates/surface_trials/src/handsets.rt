@@ -7,13 +7,13 @@ use t0_link::{Link, LinkFault};
 use terminal_side::Phone;
 use toolkit_commands::{Details, ProactiveFault};
 
-/// The bytes in a line that says what happens at a handset.
-fn bytes_in(line: &ScriptLine) -> Option<&[u8]> {
+/// Whether a line says what happens at a handset.
+fn is_of_handset(line: &ScriptLine) -> bool {
     match line {
-        ScriptLine::UserType(text) | ScriptLine::UserDial(text) | ScriptLine::NetPlace(text) => {
-            Some(text.as_slice())
-        }
-        ScriptLine::UserOk
+        ScriptLine::UserType(_)
+        | ScriptLine::UserDial(_)
+        | ScriptLine::NetPlace(_)
+        | ScriptLine::UserOk
         | ScriptLine::UserEnd
         | ScriptLine::UserBack
         | ScriptLine::UserNone
@@ -21,8 +21,8 @@ fn bytes_in(line: &ScriptLine) -> Option<&[u8]> {
         | ScriptLine::UserPress
         | ScriptLine::UserIdle
         | ScriptLine::NetPoll
-        | ScriptLine::Time(_) => Some(&[]),
-        _ => None,
+        | ScriptLine::Time(_) => true,
+        _ => false,
     }
 }
 
