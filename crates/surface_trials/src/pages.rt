@@ -33,15 +33,13 @@ fn a_page_is_shown_for_its_word_alone(rt: HostRuntime) -> Result<(), Fail> {
         let mut sink = ListSink::new(rt.alloc(), 8192, fails)?;
         let cast: Vec<Option<Clock>> = Vec::new(rt.alloc());
         let got = answer(&rt, &arguments, &mut source, &mut sink, cast);
-        assert_eq!(rt;
-            (got, source.calls(), sink.calls()),
-            (status, 0, 1),
-            "{command_line}"
-        );
+        assert_eq!(rt; got, status, "{command_line}");
         assert!(rt;
             sink.taken().starts_with(beginning.as_bytes()),
             "{command_line}"
         );
+        assert_eq!(rt; source.calls(), 0, "{command_line}");
+        assert_eq!(rt; sink.calls(), 1, "{command_line}");
     }
     Ok(())
 }
