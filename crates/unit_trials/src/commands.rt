@@ -5,8 +5,8 @@ ghost use Rattle.toolkit_commands.specs.Table.{HasWritableTime};
 use crate::rows::Row;
 use crate::spelled::show_proactive;
 use toolkit_commands::{
-    Details, Envelope, Proactive, ProactiveFault, TooLong, details_of, found_details,
-    lengths_of_commands, read_envelope, read_proactive, read_response, spell,
+    BadEnvelope, Details, Envelope, Mismatch, Proactive, ProactiveFault, TooLong, details_of,
+    found_details, lengths_of_commands, read_envelope, read_proactive, read_response, spell,
 };
 
 /// No command, response or envelope has more bytes.
@@ -108,7 +108,7 @@ pub fn show_response(row: &mut Row<'_>) {
             row.show_number(" item ", response.item);
             row.show_text(" text ", response.text.as_slice());
         }
-        Err(_) => row.show("mismatch"),
+        Err(Mismatch) => row.show("mismatch"),
     }
 }
 
@@ -124,6 +124,6 @@ pub fn show_envelope(row: &mut Row<'_>) {
             row.show_bytes(" ", body.as_slice());
         }
         Ok(Envelope::Timer { timer }) => row.show_number("timer ", timer),
-        Err(_) => row.show("no envelope"),
+        Err(BadEnvelope) => row.show("no envelope"),
     }
 }
