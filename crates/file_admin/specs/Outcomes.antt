@@ -130,6 +130,7 @@ pub record ChangesNodes (result : Result StatusWord StoreFault) (before after : 
 
 -- ---- all of it, where the status is known
 
+-- what a command has done to a card over any store, after Ok or where a fault stopped it
 pub record IsDone (result : Result StatusWord StoreFault) (before after : Memory) (old new : List (Option Selection)) (meaning : Persistent → Result TreeOutcome StatusWord) : Type 0 where
   pub answers : IfOk result (λ status. AnswersTree before.table after.table status old new meaning)
   pub leaves : OnOk result (IfSome (held before) (λ state. held after ≡ Some (last_of state (passed_by old (meaning state)))))
