@@ -1,5 +1,5 @@
 -- A run whose card was open ends as its lines do.
-use Rattle.std.proofs.Common.{◌≡◌, ℕ, Result, Ok, Err, refl, sym, ap, subst, inl, is_some, IsErr}
+use Rattle.std.proofs.Common.{◌≡◌, ℕ, List, Option, Result, Ok, Err, refl, sym, ap, subst, inl, is_some, IsErr}
 use Rattle.uicc_types.specs.Counts.{CountsFailure, Meter, Rose}
 use Rattle.byte_streams.specs.Streams.{CountsEach}
 use Rattle.script_reader.specs.declared.behind.PlayEnd.{PlayEnd}
@@ -13,25 +13,16 @@ use Rattle.uicc_run.specs.declared.endings.Ending.{Ending}
 use Rattle.uicc_run.specs.declared.endings.Ending.TheVariants.{Played}
 
 for_its_source : (end : PlayEnd) → status_for (Played end) ≡ 3 → end ≡ play.ReadFailed
-for_its_source play.Finished is = absurd (cc)
-for_its_source (play.BadLine number) is = absurd (cc)
 for_its_source play.ReadFailed is = refl
-for_its_source play.SinkFailed is = absurd (cc)
-for_its_source play.ResetFailed is = absurd (cc)
+for_its_source other is = absurd (cc)
 
 for_its_sink : (end : PlayEnd) → status_for (Played end) ≡ 4 → end ≡ play.SinkFailed
-for_its_sink play.Finished is = absurd (cc)
-for_its_sink (play.BadLine number) is = absurd (cc)
-for_its_sink play.ReadFailed is = absurd (cc)
 for_its_sink play.SinkFailed is = refl
-for_its_sink play.ResetFailed is = absurd (cc)
+for_its_sink other is = absurd (cc)
 
 for_its_memory : (end : PlayEnd) → status_for (Played end) ≡ 6 → end ≡ play.ResetFailed
-for_its_memory play.Finished is = absurd (cc)
-for_its_memory (play.BadLine number) is = absurd (cc)
-for_its_memory play.ReadFailed is = absurd (cc)
-for_its_memory play.SinkFailed is = absurd (cc)
 for_its_memory play.ResetFailed is = refl
+for_its_memory other is = absurd (cc)
 
 same_end : (end other : PlayEnd) → Played end ≡ Played other → end ≡ other
 same_end end other is = cc is
@@ -48,6 +39,23 @@ ends_played end before after TraceIsSame BoxesAreSame source sink memory tells =
   untouched = λ none. none;
   boxes = λ none. absurd none;
 }
+
+-- and one over a device as over the store that was made over it
+pub ends_on : (ending : Ending) (before after : World) (old new : Option (List ℕ)) (first last : Meter) (TraceIsSame StoreIsSame MemoryIsSame BoxesAreSame : Type 0) → first ≡ before.meter → last ≡ after.meter → (StoreIsSame → MemoryIsSame)
+    → EndsFor ending (record before { contents = old; meter = first }) (record after { contents = new; meter = last }) TraceIsSame StoreIsSame BoxesAreSame → EndsFor ending before after TraceIsSame MemoryIsSame BoxesAreSame
+ends_on ending before after old new first last TraceIsSame StoreIsSame MemoryIsSame BoxesAreSame first_is last_is same ends =
+    let on = subst (λ m. EndsFor ending (record before { contents = old; meter = m }) (record after { contents = new }) TraceIsSame StoreIsSame BoxesAreSame) first_is
+    (subst (λ m. EndsFor ending (record before { contents = old; meter = first }) (record after { contents = new; meter = m }) TraceIsSame StoreIsSame BoxesAreSame) last_is ends) in
+    record {
+      source_cause = on.source_cause;
+      sink_cause = on.sink_cause;
+      memory_cause = on.memory_cause;
+      reset_cause = on.reset_cause;
+      tells = on.tells;
+      unshown = on.unshown;
+      untouched = λ early. same (on.untouched early);
+      boxes = on.boxes;
+    }
 
 -- a long run ends with its counts, or for its memory
 ends_so : (lines : ℕ) (outcome : Result Counts MemoryFailed) (old new : Meter) (BoxesAreSame : Type 0) → (IsErr outcome → Rose old.faults new.faults) → EndsLoad (ending_for_load lines outcome) old new ⊥ BoxesAreSame

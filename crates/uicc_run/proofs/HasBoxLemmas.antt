@@ -37,11 +37,9 @@ abbrev pub IsBoxed : Given → Type 0
 IsBoxed given = IfSome given.first (AreOfTheirBoxes given.boxes)
 
 first_boxed : (cast : List (Option AppletState)) (asked : Mode) → IfSome (first_of asked) (AreOfTheirBoxes cast)
-first_boxed cast mode.Play = All-nil (IsOfItsBox cast)
 first_boxed cast mode.Open = tt
-first_boxed cast (mode.Phone transport) = All-nil (IsOfItsBox cast)
-first_boxed cast (mode.Load start count) = All-nil (IsOfItsBox cast)
 first_boxed cast mode.Bip = tt
+first_boxed cast other = All-nil (IsOfItsBox cast)
 
 -- so they are in a run for which its words ask: there are none
 pub is_boxed : (given : Given) (words : List (List ℕ)) → ((asked : Request) → IsRequest words asked → IsAskedFor given asked) → AskForRun words → IsBoxed given

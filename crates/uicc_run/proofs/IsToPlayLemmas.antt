@@ -7,6 +7,6 @@ use Rattle.uicc_run.specs.Playing.{Given}
 use Rattle.uicc_run.specs.Worlds.{World}
 use Rattle.uicc_run.specs.declared.listeners.Listener.{Listener}
 
-pub to_play : (given : Given) (told : Bool) (words : List (List ℕ)) (before : World) (listener : Listener) (pages : Bool) (card : Option Persistent) → RunsFrom given told words before → given.is_served ≡ is_handset listener → given.first ≡ card → given.pages ≡ pages
-    → IsToPlay given listener pages card before
-to_play given told words before listener pages card from served first store = record { text_is = from.text_is; boxes_are = from.others_are.boxes_are; served_is = served; first_is = first; store_is = store }
+pub to_play : (given : Given) (told : Bool) (words : List (List ℕ)) (before : World) (listener : Listener) (card : Option Persistent) → RunsFrom given told words before → given.is_served ≡ is_handset listener → given.first ≡ card
+    → IsToPlay given listener card before.left before.boxes
+to_play given told words before listener card from served first = record { text_is = from.text_is; boxes_are = from.others_are.boxes_are; served_is = served; first_is = first }

@@ -9,7 +9,7 @@ use Rattle.byte_streams.proofs.ReadingLemmas.{HasRead-start}
 use Rattle.byte_streams.specs.Lines.{lines_within}
 use Rattle.byte_streams.specs.Reading.{at_start, pending}
 use Rattle.script_form.specs.declared.lines.ScriptLine.{ScriptLine}
-use Rattle.script_form.specs.declared.lines.ScriptLine.TheVariants.{Passed, Start, Reset, Df, Transparent, Linear, Cyclic, Fill, Rec, Pin, Row, Apdu, Tpdu, Cut, Fail, ReadFail, UserOk, UserEnd, UserBack, UserNone, UserType, UserPick, UserPress, UserIdle, UserDial, NetPlace, NetPoll, Time, Cmd, Echo, Lose}
+use Rattle.script_form.specs.declared.lines.ScriptLine.TheVariants.{Passed, Start}
 use Rattle.script_reader.proofs.AreReadLemmas.{Say-from_read}
 use Rattle.script_reader.specs.declared.reader.ScriptReader.{ScriptReader}
 use Rattle.card_state.specs.Migration.{migrated}
@@ -93,36 +93,7 @@ some_stays cast (line ∷ more) state card is = some_line cast more card (λ sta
 
 no_line : (cast : List (Option AppletState)) (line : ScriptLine) (more : List ScriptLine) (card : Option Persistent) → ((card' : Option Persistent) → with_lines cast None more ≡ Ok card' → is_some card' ≡ false) → with_lines cast None (line ∷ more) ≡ Ok card → is_some card ≡ false
 no_line cast Passed more card rest is = rest card is
-no_line cast Start more card rest is = absurd (cc)
-no_line cast Reset more card rest is = absurd (cc)
-no_line cast (Df path) more card rest is = absurd (cc)
-no_line cast (Transparent path size short rule) more card rest is = absurd (cc)
-no_line cast (Linear path length count short rule) more card rest is = absurd (cc)
-no_line cast (Cyclic path length count short rule) more card rest is = absurd (cc)
-no_line cast (Fill path offset bytes) more card rest is = absurd (cc)
-no_line cast (Rec path number bytes) more card rest is = absurd (cc)
-no_line cast (Pin key value enabled unblock) more card rest is = absurd (cc)
-no_line cast (Row shelf priority content) more card rest is = absurd (cc)
-no_line cast (Apdu bytes) more card rest is = absurd (cc)
-no_line cast (Tpdu bytes) more card rest is = absurd (cc)
-no_line cast (Cut cut) more card rest is = absurd (cc)
-no_line cast (Fail fail) more card rest is = absurd (cc)
-no_line cast (ReadFail call) more card rest is = absurd (cc)
-no_line cast UserOk more card rest is = absurd (cc)
-no_line cast UserEnd more card rest is = absurd (cc)
-no_line cast UserBack more card rest is = absurd (cc)
-no_line cast UserNone more card rest is = absurd (cc)
-no_line cast (UserType text) more card rest is = absurd (cc)
-no_line cast (UserPick id) more card rest is = absurd (cc)
-no_line cast UserPress more card rest is = absurd (cc)
-no_line cast UserIdle more card rest is = absurd (cc)
-no_line cast (UserDial digits) more card rest is = absurd (cc)
-no_line cast (NetPlace place) more card rest is = absurd (cc)
-no_line cast NetPoll more card rest is = absurd (cc)
-no_line cast (Time seconds) more card rest is = absurd (cc)
-no_line cast (Cmd bytes) more card rest is = absurd (cc)
-no_line cast (Echo channel count) more card rest is = absurd (cc)
-no_line cast (Lose channel) more card rest is = absurd (cc)
+no_line cast other more card rest is = absurd (cc)
 
 pub none_stays : (cast : List (Option AppletState)) (lines : List ScriptLine) (card : Option Persistent) → with_lines cast None lines ≡ Ok card → is_some card ≡ false
 none_stays cast [] card is = cc
@@ -384,11 +355,9 @@ fault_keeps mark told told_then (Some card) stands leaves is = absurd is
 
 -- and so does a refusal
 pub refusal_keeps : (why : OpenFault) (mark : ℕ) (told told_then : Option (List ℕ)) → FaultLeaves why mark told told_then → KeepsBytes (ending_for why) (standing mark told) → told_then ≡ told
-refusal_keeps (fault.NotACard at) mark told told_then leaves is = leaves
-refusal_keeps (fault.NoBox shelf) mark told told_then leaves is = leaves
 refusal_keeps fault.Failed mark told told_then leaves is = fault_keeps mark told told_then (standing mark told) refl leaves is
 refusal_keeps fault.PowerLost mark told told_then leaves is = fault_keeps mark told told_then (standing mark told) refl leaves is
-refusal_keeps fault.Memory mark told told_then leaves is = leaves
+refusal_keeps other mark told told_then leaves is = leaves
 
 -- what is kept of a memory is kept of one that stands for the same
 pub keeps_so : (ending : Ending) (mark mark_then : ℕ) (told told_then : Option (List ℕ)) → mark_then ≡ mark → told_then ≡ told → KeepsBytes ending (standing mark told) → KeepsBytes ending (standing mark_then told_then)
@@ -406,10 +375,6 @@ stays_made ending described mark made last held is stands keeps =
 pub made_none : (card : Option Persistent) (mark : ℕ) (told told_then : Option (List ℕ)) → card ≡ None → makes card mark told told_then → told_then ≡ told
 made_none None mark told told_then is made = made
 made_none (Some card) mark told told_then is made = absurd (cc)
-
-pub none_is_some : (card : Option Persistent) → card ≡ None → is_some card ≡ true → ⊥
-none_is_some None is some = absurd (cc)
-none_is_some (Some card) is some = absurd (cc)
 
 -- lines that were added to no card describe none
 pub describes_none : (cast : List (Option AppletState)) (text : List ℕ) (script : ScriptReader) (left : Option (List ℕ)) (card : Option Persistent) → AtStart cast None text script left card → card ≡ None
@@ -474,10 +439,7 @@ described_some cast None section card described some = absurd (cc)
 -- a card that can't be opened was formatted before, if one was to be
 pub formatted_then : (why : OpenFault) → ending_for why ≡ FormatFailed → ⊥
 formatted_then (fault.NotACard at) is = cc
-formatted_then (fault.NoBox shelf) is = cc
-formatted_then fault.Failed is = cc
-formatted_then fault.PowerLost is = cc
-formatted_then fault.Memory is = cc
+formatted_then other is = cc
 
 -- `start` was read
 abbrev pub reached : (given : Given) (script : ScriptReader) (left : Option (List ℕ)) (card : Option Persistent) → AtStart given.boxes given.first given.text script left card → ReachesStart given card

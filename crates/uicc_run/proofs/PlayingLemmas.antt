@@ -18,7 +18,7 @@ use Rattle.script_reader.proofs.AreReadLemmas.{AreRead-more}
 use Rattle.script_reader.specs.Reading.{Finds, Follows}
 use Rattle.script_reader.specs.Said.{AreRead}
 use Rattle.script_reader.specs.declared.behind.PlayEnd.{PlayEnd}
-use Rattle.script_reader.specs.declared.behind.PlayEnd.TheVariants.{Finished, BadLine, ReadFailed, SinkFailed, ResetFailed}
+use Rattle.script_reader.specs.declared.behind.PlayEnd.TheVariants.{SinkFailed, ResetFailed}
 use Rattle.script_reader.specs.declared.reader.ScriptReader.{ScriptReader}
 use Rattle.card_state.specs.Persistent.{Persistent}
 use Rattle.card_model.specs.Counts.{IsCounted}
@@ -309,8 +309,6 @@ ends_playing given first script left left_then kept end now stands boxes cause p
 
 -- whatever the end is
 pub comes_to_end : (given : Given) (first : CardView) (left : Option (List ℕ)) (end : PlayEnd) (now : Leaves) → EndsSo given first left end now → CardComesTo given first left end now
-comes_to_end given first left Finished now ends = ends
-comes_to_end given first left (BadLine number) now ends = ends
-comes_to_end given first left ReadFailed now ends = ends
 comes_to_end given first left SinkFailed now ends = absurd ends.cause
 comes_to_end given first left ResetFailed now ends = absurd ends.cause
+comes_to_end given first left other now ends = ends

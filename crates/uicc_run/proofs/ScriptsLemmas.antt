@@ -11,7 +11,8 @@ use Rattle.script_form.specs.declared.lines.ScriptLine.{ScriptLine}
 use Rattle.script_form.specs.declared.lines.ScriptLine.TheVariants.{Start}
 use Rattle.script_form.specs.declared.trace.TraceLine.TheVariants as line
 use Rattle.script_reader.proofs.AreReadLemmas.{Say-from_read}
-use Rattle.script_reader.specs.Said.{Say}
+use Rattle.script_reader.specs.Reading.{GoesOn}
+use Rattle.script_reader.specs.Said.{AreRead, Say}
 use Rattle.script_reader.specs.declared.behind.PlayEnd.{PlayEnd}
 use Rattle.script_reader.specs.declared.behind.PlayEnd.TheVariants as play
 use Rattle.script_reader.specs.declared.faults.ScriptFault.TheVariants as script
@@ -20,7 +21,6 @@ use Rattle.applet_trait.specs.Minds.{AppletState}
 use Rattle.card_model.specs.States.{HasBox, IsGood, Machine}
 use Rattle.card_core.specs.Openings.{with_all_shelves}
 use Rattle.card_core.specs.Boxes.{IsFirstWithoutBox}
-use Rattle.section_lines.specs.SectionReading.{EndsInSection}
 use Rattle.section_lines.specs.RowLaws.{AreOfTheirBoxes}
 use Rattle.section_lines.proofs.RowsHaveBoxesLemmas.{rows_have_boxes}
 use Rattle.section_lines.specs.Script.{with_lines}
@@ -35,7 +35,7 @@ use Rattle.uicc_run.proofs.ReadingLemmas.{EndsBehind, HasStarted, has_started, r
 use Rattle.uicc_run.proofs.TellsNextLemmas.{tells_it, tells_same}
 use Rattle.uicc_run.proofs.ServingLemmas.{opening}
 use Rattle.uicc_run.specs.Steps.{may_stand}
-use Rattle.uicc_run.specs.Scripts.{AreInPlace, CanOpen, CannotOpen, HoldsWholeCard, IsFirstBad, IsFirstTooMuch, IsGoodScript, MeetsBad, NoBoxOn, NoCardAt, ReachesStart, Refusal, RefusesAndTells, StopsAndTells, StopsAtStart, StopsBehind, TellsNext, TellsWhy, refusal_line}
+use Rattle.uicc_run.specs.Scripts.{AreInPlace, CanOpen, CannotOpen, HoldsWholeCard, IsFirstBad, IsFirstTooMuch, IsGoodScript, MeetsBad, NoBoxOn, NoCardAt, ReachesStart, Refusal, RefusesAndTells, StopsAndTells, StopsAtStart, StopsBefore, StopsBehind, TellsNext, TellsWhy, refusal_line}
 use Rattle.uicc_run.specs.declared.endings.Ending.{Ending}
 use Rattle.uicc_run.specs.declared.endings.Ending.TheVariants.{Usage, NoMemory, Section, FormatFailed, EepromFailed, NotACard, NoApplet, Played, Counted, LoadFailed}
 use Rattle.uicc_run.proofs.HasBoxLemmas.{IsBoxed, have_boxes}
@@ -148,52 +148,21 @@ why_eight false is = absurd (cc)
 why_eight true is = refl
 
 -- before `start`
-abbrev stopped_before : (given : Given) (status number : ℕ) (before taken left : Option (List ℕ)) (ends : EndsInSection given.boxes given.first given.text left (script.BadLine number)) → status ≡ 2
-    → taken ≡ append_known before (trace_text (line.Line number) ++ []) → Stopped given status left taken
-stopped_before given status number before taken left ends is told = record {
-  why = false;
+abbrev stopped_before : (given : Given) (why : Bool) (status number : ℕ) (before taken left : Option (List ℕ)) (found : LineList) (section : List ScriptLine) (card : Option Persistent)
+    → AreRead found section → with_lines given.boxes given.first section ≡ Ok card → GoesOn given.text found left (λ next. Stops (rules_of given) (Before card) next why) number
+    → (StopsBefore given found (λ c next. Stops (rules_of given) (Before c) next why) → IsStop given why found) → status ≡ stop_status why → taken ≡ append_known before (trace_text (line.Line number) ++ []) → Stopped given status left taken
+stopped_before given why status number before taken left found section card read described cause stop is told = record {
+  why = why;
   is = is;
-  found = ends.given;
-  next = ends.cause.next;
-  to = Before ends.card;
-  parted = ends.cause.parted;
-  walk = walks_section (rules_of given) Only ends.given ends.section given.first ends.card ends.read ends.described;
-  stops = ends.cause.is;
-  place = inl (record {
-    section = ends.section;
-    card = ends.card;
-    next = ends.cause.next;
-    parted = ends.cause.parted;
-    said = Say-from_read ends.given ends.section ends.read;
-    described = ends.described;
-    is = ends.cause.is;
-  });
-  tells = tells_it before taken ends.given number ends.cause.counted told;
-  reach = ends.cause.reach;
-}
-
-abbrev stopped_full : (given : Given) (status number : ℕ) (before taken left : Option (List ℕ)) (ends : EndsInSection given.boxes given.first given.text left (script.NoRoom number)) → status ≡ 8
-    → taken ≡ append_known before (trace_text (line.Line number) ++ []) → Stopped given status left taken
-stopped_full given status number before taken left ends is told = record {
-  why = true;
-  is = is;
-  found = ends.given;
-  next = ends.cause.next;
-  to = Before ends.card;
-  parted = ends.cause.parted;
-  walk = walks_section (rules_of given) Only ends.given ends.section given.first ends.card ends.read ends.described;
-  stops = ends.cause.is;
-  place = record {
-    section = ends.section;
-    card = ends.card;
-    next = ends.cause.next;
-    parted = ends.cause.parted;
-    said = Say-from_read ends.given ends.section ends.read;
-    described = ends.described;
-    is = ends.cause.is;
-  };
-  tells = tells_it before taken ends.given number ends.cause.counted told;
-  reach = ends.cause.reach;
+  found = found;
+  next = cause.next;
+  to = Before card;
+  parted = cause.parted;
+  walk = walks_section (rules_of given) Only found section given.first card read described;
+  stops = cause.is;
+  place = stop (record { section = section; card = card; next = cause.next; parted = cause.parted; said = Say-from_read found section read; described = described; is = cause.is });
+  tells = tells_it before taken found number cause.counted told;
+  reach = cause.reach;
 }
 
 -- after it
@@ -349,8 +318,8 @@ verdict_of : (given : Given) (known : Bool) (left taken : Option (List ℕ)) (en
     → (status ≡ 7 → (IsBoxed given → ⊥) → ⊥) → (ending ≡ Usage → ⊥) → (status_for ending ≡ 3 → ⊥) → (status_for ending ≡ 4 → ⊥) → (status_for ending ≡ 6 → ⊥) → Verdict given known status left taken
 verdict_of given known left taken Usage leaves status is told comes boxed used three four six = absurd (used refl)
 verdict_of given known left taken NoMemory leaves status is told comes boxed used three four six = inl is
-verdict_of given known left taken (Section (script.BadLine number)) leaves status is told comes boxed used three four six = inr (inr (inl (stopped_before given status number leaves.taken taken left comes.0 is told, λ tells. tt)))
-verdict_of given known left taken (Section (script.NoRoom number)) leaves status is told comes boxed used three four six = inr (inr (inl (stopped_full given status number leaves.taken taken left comes.0 is told, λ tells. tt)))
+verdict_of given known left taken (Section (script.BadLine number)) leaves status is told comes boxed used three four six = inr (inr (inl (stopped_before given false status number leaves.taken taken left _ _ _ comes.0.read comes.0.described comes.0.cause inl is told, λ tells. tt)))
+verdict_of given known left taken (Section (script.NoRoom number)) leaves status is told comes boxed used three four six = inr (inr (inl (stopped_before given true status number leaves.taken taken left _ _ _ comes.0.read comes.0.described comes.0.cause (λ full. full) is told, λ tells. tt)))
 verdict_of given known left taken (Section script.ReadFailed) leaves status is told comes boxed used three four six = absurd (three refl)
 verdict_of given known left taken FormatFailed leaves status is told comes boxed used three four six = absurd (six refl)
 verdict_of given known left taken EepromFailed leaves status is told comes boxed used three four six = absurd (six refl)
@@ -553,19 +522,11 @@ by_status : (ending : Ending) → ByStatus ending
 by_status Usage = record { one = λ is. refl; five = λ is. absurd (cc is); six = λ is. absurd (cc is) }
 by_status NoMemory = record { one = λ is. absurd (cc is); five = λ is. refl; six = λ is. absurd (cc is) }
 by_status (Section (script.BadLine number)) = record { one = λ is. absurd (cc is); five = λ is. absurd (cc is); six = λ is. absurd (cc is) }
-by_status (Section script.ReadFailed) = record { one = λ is. absurd (cc is); five = λ is. absurd (cc is); six = λ is. absurd (cc is) }
-by_status (Section (script.NoRoom number)) = record { one = λ is. absurd (cc is); five = λ is. absurd (cc is); six = λ is. absurd (cc is) }
 by_status FormatFailed = record { one = λ is. absurd (cc is); five = λ is. absurd (cc is); six = λ is. inr (tt, refl) }
 by_status EepromFailed = record { one = λ is. absurd (cc is); five = λ is. absurd (cc is); six = λ is. inr (tt, refl) }
-by_status (NotACard at) = record { one = λ is. absurd (cc is); five = λ is. absurd (cc is); six = λ is. absurd (cc is) }
-by_status (NoApplet shelf) = record { one = λ is. absurd (cc is); five = λ is. absurd (cc is); six = λ is. absurd (cc is) }
-by_status (Played play.Finished) = record { one = λ is. absurd (cc is); five = λ is. absurd (cc is); six = λ is. absurd (cc is) }
-by_status (Played (play.BadLine number)) = record { one = λ is. absurd (cc is); five = λ is. absurd (cc is); six = λ is. absurd (cc is) }
-by_status (Played play.ReadFailed) = record { one = λ is. absurd (cc is); five = λ is. absurd (cc is); six = λ is. absurd (cc is) }
-by_status (Played play.SinkFailed) = record { one = λ is. absurd (cc is); five = λ is. absurd (cc is); six = λ is. absurd (cc is) }
 by_status (Played play.ResetFailed) = record { one = λ is. absurd (cc is); five = λ is. absurd (cc is); six = λ is. inl refl }
-by_status (Counted lines counts) = record { one = λ is. absurd (cc is); five = λ is. absurd (cc is); six = λ is. absurd (cc is) }
 by_status LoadFailed = record { one = λ is. absurd (cc is); five = λ is. absurd (cc is); six = λ is. inr (tt, refl) }
+by_status other = record { one = λ is. absurd (cc is); five = λ is. absurd (cc is); six = λ is. absurd (cc is) }
 
 -- a run that ends with 5 ends for that, also where a failing sink would end it with 4
 pub five_is : (ending : Ending) (status : ℕ) → (status ≡ status_for ending) ⊎ (status ≡ 4) → status ≡ 5 → ending ≡ NoMemory

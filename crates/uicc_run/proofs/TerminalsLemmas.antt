@@ -16,7 +16,7 @@ use Rattle.uicc_run.specs.Scripts.{StopsAndTells, TellsNext}
 use Rattle.uicc_run.specs.Terminals.{AskForBip, ComesToBip, TracesBip}
 use Rattle.uicc_run.proofs.TellsNextLemmas.{tells_it}
 use Rattle.uicc_run.specs.declared.endings.Ending.{Ending}
-use Rattle.uicc_run.specs.declared.endings.Ending.TheVariants.{Usage, NoMemory, Section, FormatFailed, EepromFailed, NotACard, NoApplet, Played, Counted, LoadFailed}
+use Rattle.uicc_run.specs.declared.endings.Ending.TheVariants.{NoMemory, Played}
 
 -- a run with these words is one
 pub asks_for_run : (words : List (List ℕ)) → AskForBip words → AskForRun words
@@ -47,15 +47,7 @@ verdict_of text before left put taken (Played play.Finished) status comes is tol
 verdict_of text before left put taken (Played (play.BadLine number)) status comes is told = inr (inr (inl (number, is, comes, told)))
 verdict_of text before left put taken (Played play.ReadFailed) status comes is told = inr (inr (inr (inl is)))
 verdict_of text before left put taken (Played play.SinkFailed) status comes is told = inr (inr (inr (inr is)))
-verdict_of text before left put taken (Played play.ResetFailed) status comes is told = absurd comes
-verdict_of text before left put taken Usage status comes is told = absurd comes
-verdict_of text before left put taken (Section fault) status comes is told = absurd comes
-verdict_of text before left put taken FormatFailed status comes is told = absurd comes
-verdict_of text before left put taken EepromFailed status comes is told = absurd comes
-verdict_of text before left put taken (NotACard at) status comes is told = absurd comes
-verdict_of text before left put taken (NoApplet shelf) status comes is told = absurd comes
-verdict_of text before left put taken (Counted lines counts) status comes is told = absurd comes
-verdict_of text before left put taken LoadFailed status comes is told = absurd comes
+verdict_of text before left put taken other status comes is told = absurd comes
 
 verdict : (text : List ℕ) (before : Option (List ℕ)) (seen : Seen) (traces : TracesBip text before seen) → Verdict text before seen.left traces.put seen.taken seen.status
 verdict text before seen traces = elim traces.closes [

@@ -1,7 +1,6 @@
 -- What the functions inside a run say of it, from the words to the lines after `start`. A whole run is told without it.
 use Rattle.std.specs.Prelude.{◌≡◌, ◌≢◌, ◌⊎◌, ◌≤◌, ℕ, Bool, true, List, [], length, Option, Some, None, Result, Ok, Err, IfSome, is_some}
 use Rattle.uicc_types.specs.Counts.{Meter, Caused, CountsFailure, Rose}
-use Rattle.uicc_types.specs.Told.{Becomes}
 use Rattle.byte_streams.specs.Streams.{CountsEach}
 use Rattle.byte_streams.specs.declared.streams.Sink.{Ghosts as SinkWords}
 use Rattle.byte_streams.specs.declared.streams.Source.{Ghosts as SourceWords}
@@ -13,7 +12,6 @@ use Rattle.store_form.specs.declared.store.Store.{Ghosts as StoreWords}
 use Rattle.card_state.specs.Persistent.{Persistent}
 use Rattle.card_state.specs.Standing.{standing, stands_for}
 use Rattle.card_state.specs.declared.sizes.TheConstants.{ROW_COUNT}
-use Rattle.layout_section.specs.Laying.{KeepsFirstOr}
 use Rattle.applet_trait.specs.Minds.{minds_of, AppletState}
 use Rattle.applet_trait.specs.declared.applets.Applet.{Ghosts as AppletWords}
 use Rattle.card_model.specs.Counts.{IsCounted}
@@ -27,6 +25,7 @@ use Rattle.uicc_run.specs.Endings.{HasFailed, IsEarly, IsUnopened, KeepsBytes, s
 use Rattle.uicc_run.specs.Opening.{is_handset}
 use Rattle.uicc_run.specs.Loading.{ComesToLoad, HoldsFixed, LoadsFrom}
 use Rattle.uicc_run.specs.Playing.{Leaves, Given, IsOpened}
+use Rattle.uicc_run.specs.Scripts.{HoldsDescribed, IsHalfMade}
 use Rattle.uicc_run.specs.Stores.{content_in}
 use Rattle.uicc_run.specs.Terminals.{ComesToBip}
 use Rattle.uicc_run.specs.Worlds.{World, left_in}
@@ -58,14 +57,13 @@ IsUnshown EepromFailed = Unit {0}
 IsUnshown LoadFailed = Unit {0}
 IsUnshown ending = ⊥
 
--- A run is given the text and the boxes; its lines are for this listener, those before `start` are added to this card, if there is one, and
--- it is made over this store.
-pub record IsToPlay (given : Given) (listener : Listener) (pages : Bool) (card : Option Persistent) (before : World) : Type 0 where
-  pub text_is : before.left ≡ Some given.text
-  pub boxes_are : before.boxes ≡ given.boxes
+-- A run is given this text and these boxes; its lines are for this listener, and those before `start` are added to this card, if there is
+-- one.
+pub record IsToPlay (given : Given) (listener : Listener) (card : Option Persistent) (left : Option (List ℕ)) (boxes : List (Option AppletState)) : Type 0 where
+  pub text_is : left ≡ Some given.text
+  pub boxes_are : boxes ≡ given.boxes
   pub served_is : given.is_served ≡ is_handset listener
   pub first_is : given.first ≡ card
-  pub store_is : given.pages ≡ pages
 
 -- What a store stands for that was made ready for the opening, if it does, is the card that is to be opened; where no card is described it is
 -- what it was.
@@ -152,15 +150,13 @@ pub record LoadsUntold (words : List (List ℕ)) (start count : ℕ) (ending : E
   pub no_memory : (given : Given) (told : Bool) → LoadsFrom given told start count words before → ending ≡ NoMemory
       → MemoryIsSame ⊎ HoldsFixed given (content_in given.pages after.contents)
 
--- the same of a store with this mark, by the card that was described, if one was
-pub record KeepsCardThere (mark : ℕ) (described : Option Persistent) (ending : Ending) (before after : World) : Type 0 where
-  pub bytes : described ≡ None → KeepsBytes ending (standing mark before.contents) → after.contents ≡ before.contents
-  pub half_made : (card : Persistent) → described ≡ Some card → ending ≡ FormatFailed
-      → Becomes (KeepsFirstOr mark card) before.contents after.contents
-  pub no_memory : (card : Persistent) → described ≡ Some card → ending ≡ NoMemory
-      → IfSome after.contents (λ content. stands_for mark content ≡ Ok card)
+-- What becomes of the content of a store that stood for this card, or for none: `KeepsMemory` says it of the device of such a store.
+pub record KeepsContent (given : Given) (ending : Ending) (held : Option Persistent) (old new : Option (List ℕ)) : Type 0 where
+  pub bytes : given.first ≡ None → KeepsBytes ending held → new ≡ old
+  pub half_made : is_some given.first ≡ true → ending ≡ FormatFailed → IsHalfMade given old new
+  pub no_memory : is_some given.first ≡ true → ending ≡ NoMemory → HoldsDescribed given new
 
--- and where the card is only opened: no end of it is one of a formatting
+-- and where the card is only opened, of a store with this mark: no end of it is one of a formatting
 pub record KeepsOpened (mark : ℕ) (ending : Ending) (before after : World) : Type 0 where
   pub bytes : KeepsBytes ending (standing mark before.contents) → after.contents ≡ before.contents
   pub formatted : ending ≢ FormatFailed

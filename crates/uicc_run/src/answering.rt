@@ -1,14 +1,13 @@
 //! What the program answers to the words of its command line.
 ghost use Rattle.std.specs.Prelude.{◌≡◌, ◌≤◌, ℕ, [], Some, None, true, length, map, option_map, slice_get, string_bytes};
-ghost use Rattle.script_form.specs.Reads.{IsOnly};
 ghost use Rattle.card_state.specs.declared.sizes.TheConstants.{ROW_COUNT};
 ghost use Rattle.applet_trait.specs.Minds.{minds_of};
-ghost use Rattle.command_line.specs.Model.{AskForRun, IsMadeFor};
+ghost use Rattle.command_line.specs.Model.{AskForRun};
 ghost use Rattle.uicc_run.specs.Answering.{HasLoadedOnBench, HasOuterCauses, HasRunOnBench, HasServed, KeepsToScripts, NameNoImage, RefusesUseless, ShowsPages};
 ghost use Rattle.uicc_run.specs.OverDevices.{HasLoadedOver, HasRunOver, HasUsedCauses, IsUsage};
 ghost use Rattle.uicc_run.specs.Causes.{FitsRun};
 ghost use Rattle.uicc_run.specs.Pages.{AsksForNone, words_of};
-ghost use Rattle.uicc_run.specs.Worlds.{new_meter, outside, over_bench, world};
+ghost use Rattle.uicc_run.specs.Worlds.{new_meter, outside, world};
 ghost use Rattle.uicc_run.specs.Stores.{size_of};
 
 use crate::endings::Ending;
@@ -18,7 +17,7 @@ use crate::running::{close, run};
 use applet_trait::Applet;
 use byte_streams::{Sink, Source};
 use card_state::places::MEMORY_SIZE;
-use command_line::{Devices, devices};
+use command_line::devices;
 use eeprom_model::{BenchEeprom, Eeprom, FileEeprom};
 use page_store::DEVICE_SIZE;
 use std::alloc::Global;
@@ -98,46 +97,21 @@ fn play<H: Files<File = File> + Eprint + AllocGlobal, R: Source, W: Sink, B: App
         (outside R.Source W.Sink script.new output.new []) (script.new ≡ script.old) }
 {
     match devices(words) {
-        Some(made) => play_on(rt, words, made, script, output, cast),
-        None => close(&Ending::Usage, output),
-    }
-}
-
-/// Runs over the device that is to be made: the file of an image, or else a memory of the bench.
-fn play_on<H: Files<File = File> + Eprint + AllocGlobal, R: Source, W: Sink, B: Applet>(
-    rt: &H,
-    words: &[String],
-    made: Devices,
-    script: &mut R,
-    output: &mut W,
-    cast: Vec<Option<B>>,
-) -> u8
-    requires shelves { length cast.items ≤ ROW_COUNT }
-    requires used { IsOnly (IsMadeFor (map string_bytes words.now)) made }
-    ensures script { KeepsToScripts (map string_bytes words.now) result
-        (outside R.Source W.Sink script.old output.old (minds_of B.mind cast.items))
-        (outside R.Source W.Sink script.new output.new []) }
-    ensures trace { made.image ≡ None → HasRunOnBench (map string_bytes words.now) result
-        (outside R.Source W.Sink script.old output.old (minds_of B.mind cast.items))
-        (outside R.Source W.Sink script.new output.new []) }
-    ensures load { made.image ≡ None → HasLoadedOnBench (map string_bytes words.now) result
-        (outside R.Source W.Sink script.old output.old (minds_of B.mind cast.items))
-        (outside R.Source W.Sink script.new output.new []) }
-    ensures bip { HasServed (map string_bytes words.now) result
-        (outside R.Source W.Sink script.old output.old (minds_of B.mind cast.items))
-        (outside R.Source W.Sink script.new output.new []) }
-    ensures causes { HasUsedCauses (map string_bytes words.now) result
-        (outside R.Source W.Sink script.old output.old (minds_of B.mind cast.items))
-        (outside R.Source W.Sink script.new output.new []) (script.new ≡ script.old) }
-{
-    let size = device_size(made.pages);
-    match image_path(words, made.image) {
-        Some(path) => {
-            let file = image_file(rt, path.as_str(), size, use_of(words));
-            let eeprom = FileEeprom::new(file, size);
-            play_over(rt.alloc(), words, script, output, eeprom, cast)
+        Some(made) => {
+            let size = device_size(made.pages);
+            match image_path(words, made.image) {
+                Some(path) => {
+                    let file = image_file(rt, path.as_str(), size, use_of(words));
+                    let eeprom = FileEeprom::new(file, size);
+                    play_over(rt.alloc(), words, script, output, eeprom, cast)
+                }
+                None => match BenchEeprom::new(rt.alloc(), size) {
+                    Ok(eeprom) => play_over(rt.alloc(), words, script, output, eeprom, cast),
+                    Err(_) => close(&Ending::NoMemory, output),
+                },
+            }
         }
-        None => play_on_bench(rt.alloc(), words, size, script, output, cast),
+        None => close(&Ending::Usage, output),
     }
 }
 
@@ -155,39 +129,6 @@ fn image_path(words: &[String], place: Option<usize>) -> Option<&String>
         → option_map (λ word. string_bytes word.now) result ≡ slice_get (map string_bytes words.now) at }
 {
     words.get(place?)
-}
-
-/// Runs over a new memory of the bench.
-fn play_on_bench<R: Source, W: Sink, B: Applet>(
-    alloc: Global,
-    words: &[String],
-    size: usize,
-    script: &mut R,
-    output: &mut W,
-    cast: Vec<Option<B>>,
-) -> u8
-    requires fits { FitsRun (map string_bytes words.now) size cast.items }
-    requires used { AskForRun (map string_bytes words.now) }
-    ensures script { KeepsToScripts (map string_bytes words.now) result
-        (outside R.Source W.Sink script.old output.old (minds_of B.mind cast.items))
-        (outside R.Source W.Sink script.new output.new []) }
-    ensures trace { HasRunOver (map string_bytes words.now) result
-        (over_bench size (outside R.Source W.Sink script.old output.old (minds_of B.mind cast.items)))
-        (outside R.Source W.Sink script.new output.new []) }
-    ensures load { HasLoadedOver (map string_bytes words.now) result
-        (over_bench size (outside R.Source W.Sink script.old output.old (minds_of B.mind cast.items)))
-        (outside R.Source W.Sink script.new output.new []) }
-    ensures bip { HasServed (map string_bytes words.now) result
-        (outside R.Source W.Sink script.old output.old (minds_of B.mind cast.items))
-        (outside R.Source W.Sink script.new output.new []) }
-    ensures causes { HasUsedCauses (map string_bytes words.now) result
-        (outside R.Source W.Sink script.old output.old (minds_of B.mind cast.items))
-        (outside R.Source W.Sink script.new output.new []) (script.new ≡ script.old) }
-{
-    match BenchEeprom::new(alloc, size) {
-        Ok(eeprom) => play_over(alloc, words, script, output, eeprom, cast),
-        Err(_) => close(&Ending::NoMemory, output),
-    }
 }
 
 /// Runs over a device to which nothing has happened, and lets it and the boxes go.

@@ -6,16 +6,15 @@ ghost use Rattle.byte_streams.specs.Reading.{IsTaken, IsWithin};
 ghost use Rattle.byte_streams.specs.declared.limits.TheConstants.{MOST_BYTES};
 ghost use Rattle.script_reader.specs.Reading.{reading};
 ghost use Rattle.card_state.specs.Places.{memory_size};
-ghost use Rattle.card_state.specs.Standing.{stands_for};
+ghost use Rattle.card_state.specs.Standing.{standing, stands_for};
 ghost use Rattle.card_state.specs.Persistent.{Persistent};
 ghost use Rattle.layout_section.specs.Laying.{KeepsFirstOr};
 ghost use Rattle.applet_trait.specs.Minds.{minds_of};
-ghost use Rattle.section_lines.specs.SectionReading.{AtStart};
 ghost use Rattle.run_steps.specs.Ends.{moment_at};
 ghost use Rattle.run_steps.specs.Tallies.{tally};
 ghost use Rattle.run_steps.specs.Views.{CardView};
 ghost use Rattle.phone_runs.specs.LineTallies.{TalliesLines};
-ghost use Rattle.uicc_run.specs.Making.{EndsFor, FitsStore, KeepsOpened, KeepsCardThere, KeepsStoreForm, LoadsUntold, RefusesAtFirst, IsMade, IsToPlay, ending_for, makes, left_of, stored, ServesBip};
+ghost use Rattle.uicc_run.specs.Making.{EndsFor, FitsStore, KeepsContent, KeepsOpened, KeepsStoreForm, LoadsUntold, RefusesAtFirst, IsMade, IsToPlay, ending_for, makes, left_of, stored, ServesBip};
 ghost use Rattle.uicc_run.specs.Causes.{FitsRun, KeepsMemory};
 ghost use Rattle.uicc_run.specs.Endings.{HasFailed, status_for};
 ghost use Rattle.uicc_run.specs.Headline.{Closes, Comes};
@@ -25,7 +24,7 @@ ghost use Rattle.uicc_run.specs.BetweenLines.{IsStarted};
 ghost use Rattle.uicc_run.specs.Playing.{Given, left_at, ComesTo};
 ghost use Rattle.uicc_run.specs.Running.{RunsAsAsked};
 ghost use Rattle.uicc_run.specs.Worlds.{left_in, world};
-ghost use Rattle.uicc_run.specs.Stores.{memory_in, size_of};
+ghost use Rattle.uicc_run.specs.Stores.{mark_of, memory_in, size_of};
 ghost use Rattle.uicc_run.specs.Terminals.{AskForBip};
 
 use crate::endings::{Ending, last_line, status_of};
@@ -122,34 +121,33 @@ fn carry_out<R: Source, W: Sink, E: Eeprom, B: Applet>(
             Ok(section) => {
                 let listener = listener_for(asked.mode);
                 let card = Some(section);
-                read_and_play(alloc, pages, listener, card, script, trace, eeprom, cast)
+                play_on_device(alloc, pages, listener, card, script, trace, eeprom, cast)
             }
             Err(_) => (Ending::NoMemory, eeprom, cast),
         },
         Mode::Open => {
             let listener = Listener::Card;
-            read_and_play(alloc, pages, listener, None, script, trace, eeprom, cast)
+            play_on_device(alloc, pages, listener, None, script, trace, eeprom, cast)
         }
         Mode::Load { start, count } => load(alloc, pages, start, count, eeprom, cast),
         Mode::Bip => (serve_channels(alloc, script, trace), eeprom, cast),
     }
 }
 
-/// Reads the script from its beginning, and makes the store: the one whose pages move, or the journal. `card` is what the lines
-/// before `start` are added to, if they describe a card.
-fn read_and_play<R: Source, W: Sink, E: Eeprom, B: Applet>(
+/// Makes the store, the one whose pages move or the journal, and has the script carried out over it.
+fn play_on_device<R: Source, W: Sink, E: Eeprom, B: Applet>(
     alloc: Global,
     pages: bool,
     listener: Listener,
-    mut card: Option<Section>,
+    card: Option<Section>,
     script: &mut R,
     trace: &mut W,
     eeprom: E,
     cast: Vec<Option<B>>,
 ) -> (Ending, E, Vec<Option<B>>)
     requires fits { FitsStore (E.byte_count eeprom) (size_of pages) cast.items }
-    ensures comes { (given : Given) (told : Bool) → IsToPlay given listener pages card
-        (world R.Source W.Sink E.Eeprom B.Applet script.old trace.old eeprom cast.items)
+    ensures comes { (given : Given) (told : Bool) → given.pages ≡ pages
+        → IsToPlay given listener card (R.left script.old) (minds_of B.mind cast.items)
         → IsGiven given told (W.taken trace.old) (memory_in given.pages (E.contents eeprom)) (E.meter eeprom)
         (minds_of B.mind cast.items)
         → Comes given told (R.left script.new) result.0 (left_in given.pages
@@ -157,8 +155,8 @@ fn read_and_play<R: Source, W: Sink, E: Eeprom, B: Applet>(
     ensures taken { (text : List ℕ) → R.left script.old ≡ Some text
         → IsTaken (MOST_BYTES + 1) text (R.left script.new) }
     ensures used { result.0 ≢ Ending.Usage }
-    ensures memory { (given : Given) → IsToPlay given listener pages card
-        (world R.Source W.Sink E.Eeprom B.Applet script.old trace.old eeprom cast.items)
+    ensures memory { (given : Given) → given.pages ≡ pages
+        → IsToPlay given listener card (R.left script.old) (minds_of B.mind cast.items)
         → KeepsMemory given result.0
         (world R.Source W.Sink E.Eeprom B.Applet script.old trace.old eeprom cast.items)
         (world R.Source W.Sink E.Eeprom B.Applet script.new trace.new result.1 result.2.items)
@@ -168,74 +166,60 @@ fn read_and_play<R: Source, W: Sink, E: Eeprom, B: Applet>(
         (world R.Source W.Sink E.Eeprom B.Applet script.new trace.new result.1 result.2.items)
         (trace.new ≡ trace.old) (result.1 ≡ eeprom) (result.2.items ≡ cast.items) }
 {
-    let mut reader = ScriptReader::new();
-    match read_section(&mut reader, script, cast.as_slice(), &mut card) {
-        Err(fault) => (Ending::Section(fault), eeprom, cast),
-        Ok(()) => {
-            if pages {
-                let store = PageStore::new(eeprom);
-                let (ending, store, cast) = make_and_play(
-                    alloc,
-                    listener,
-                    &card,
-                    &mut reader,
-                    script,
-                    trace,
-                    store,
-                    cast,
-                );
-                (ending, store.into_device(), cast)
-            } else {
-                let store = Journal::new(eeprom);
-                let (ending, store, cast) = make_and_play(
-                    alloc,
-                    listener,
-                    &card,
-                    &mut reader,
-                    script,
-                    trace,
-                    store,
-                    cast,
-                );
-                (ending, store.into_device(), cast)
-            }
-        }
+    if pages {
+        let store = PageStore::new(eeprom);
+        let (ending, store, cast) = read_and_play(
+            alloc, listener, card, script, trace, store, cast,
+        );
+        (ending, store.into_device(), cast)
+    } else {
+        let store = Journal::new(eeprom);
+        let (ending, store, cast) = read_and_play(
+            alloc, listener, card, script, trace, store, cast,
+        );
+        (ending, store.into_device(), cast)
     }
 }
 
-/// Formats the store as the section describes the card, if there is one, and goes on.
-fn make_and_play<S: Store, R: Source, W: Sink, B: Applet>(
+/// Reads the script from its beginning, formats the store as the lines before `start` describe the card, if they are to describe one,
+/// and goes on. `card` is what these lines are added to then.
+fn read_and_play<S: Store, R: Source, W: Sink, B: Applet>(
     alloc: Global,
     listener: Listener,
-    card: &Option<Section>,
-    reader: &mut ScriptReader,
+    mut card: Option<Section>,
     script: &mut R,
     trace: &mut W,
     mut store: S,
     cast: Vec<Option<B>>,
 ) -> (Ending, S, Vec<Option<B>>)
     requires fits { FitsStore (S.byte_count store) memory_size cast.items }
-    ensures comes { (given : Given) (told : Bool) → given.is_served ≡ is_handset listener
+    ensures comes { (given : Given) (told : Bool)
+        → IsToPlay given listener card (R.left script.old) (minds_of B.mind cast.items)
         → IsGiven given told (W.taken trace.old) (option_map (stands_for (S.store_mark store)) (S.stable store))
         (S.meter store) (minds_of B.mind cast.items)
-        → AtStart given.boxes given.first given.text reader.old (R.left script.old) card.now
         → Comes given told (R.left script.new) result.0 (left_of (S.store_mark result.1)
         (stored R.Source W.Sink S.Store B.Applet script.new trace.new result.1 result.2.items)) }
-    ensures within { (text : List ℕ) → IsWithin text (reading reader.old) (R.left script.old)
-        → IsWithin text (reading reader.new) (R.left script.new) }
-    ensures memory { KeepsCardThere (S.store_mark store) card.now result.0
-        (stored R.Source W.Sink S.Store B.Applet script.old trace.old store cast.items)
-        (stored R.Source W.Sink S.Store B.Applet script.new trace.new result.1 result.2.items) }
+    ensures taken { (text : List ℕ) → R.left script.old ≡ Some text
+        → IsTaken (MOST_BYTES + 1) text (R.left script.new) }
+    ensures used { result.0 ≢ Ending.Usage }
+    ensures memory { (given : Given) → mark_of given.pages ≡ S.store_mark store
+        → IsToPlay given listener card (R.left script.old) (minds_of B.mind cast.items)
+        → KeepsContent given result.0 (standing (S.store_mark store) (S.stable store)) (S.stable store)
+        (S.stable result.1) }
     ensures ends { EndsFor result.0
         (stored R.Source W.Sink S.Store B.Applet script.old trace.old store cast.items)
         (stored R.Source W.Sink S.Store B.Applet script.new trace.new result.1 result.2.items)
-        (trace.new ≡ trace.old) ⊥ (result.2.items ≡ cast.items) }
+        (trace.new ≡ trace.old) (result.1 ≡ store) (result.2.items ≡ cast.items) }
 {
     // This call is a law, and does nothing.
     runs_are_counted();
-    match make(&mut store, card) {
-        Ok(()) => open_and_play(alloc, listener, reader, script, trace, store, cast),
-        Err(_) => (Ending::FormatFailed, store, cast),
+    let mut reader = ScriptReader::new();
+    match read_section(&mut reader, script, cast.as_slice(), &mut card) {
+        Err(fault) => (Ending::Section(fault), store, cast),
+        Ok(()) => match make(&mut store, &card) {
+            Ok(()) => open_and_play(alloc, listener, &mut reader, script, trace, store, cast),
+            Err(_) => (Ending::FormatFailed, store, cast),
+        },
     }
 }
 

@@ -15,12 +15,12 @@ returns-in_default-clause-comes g c = λ given told from. quiet_still given _ _ 
 pub returns-in-Ok-clause-comes : goal.returns-in-Ok-clause-comes
 returns-in-Ok-clause-comes g c = λ given told from.
     let wish = from.is_asked c.in-Some.asked c.in-Some.ensures.so in
-    c.read_and_play.ensures.comes given told (to_play given told _ _ _ _ _ from (wish.served_is ∙ sym (ap is_handset c.listener_for-listener.ensures)) (wish.first_is ∙ makes_bare _ c.in-Play.is ∙ ap Some (sym c.in-Ok.ensures)) wish.store_is) from.others_are
+    c.play_on_device.ensures.comes given told wish.store_is (to_play given told _ _ _ _ from (wish.served_is ∙ sym (ap is_handset c.listener_for-listener.ensures)) (wish.first_is ∙ makes_bare _ c.in-Play.is ∙ ap Some (sym c.in-Ok.ensures))) from.others_are
 
 pub returns-in-Open-clause-comes : goal.returns-in-Open-clause-comes
 returns-in-Open-clause-comes g c = λ given told from.
     let wish = from.is_asked c.in-Some.asked c.in-Some.ensures.so in
-    c.read_and_play-in-Open.ensures.comes given told (to_play given told _ _ _ _ _ from (wish.served_is ∙ ap is_served_by c.in-Open.is) (wish.first_is ∙ ap first_of c.in-Open.is) wish.store_is) from.others_are
+    c.play_on_device-in-Open.ensures.comes given told wish.store_is (to_play given told _ _ _ _ from (wish.served_is ∙ ap is_served_by c.in-Open.is) (wish.first_is ∙ ap first_of c.in-Open.is)) from.others_are
 
 pub returns-in-Err-clause-comes : goal.returns-in-Err-clause-comes
 returns-in-Err-clause-comes g c = λ given told from. not_begun given told _ _ (mark_of given.pages) _ _ _ _ from.text_is from.others_are
@@ -54,12 +54,12 @@ returns-in_default-clause-memory g c = λ given told from. record { bytes = λ n
 pub returns-in-Ok-clause-memory : goal.returns-in-Ok-clause-memory
 returns-in-Ok-clause-memory g c = λ given told from.
     let wish = from.is_asked c.in-Some.asked c.in-Some.ensures.so in
-    c.read_and_play.ensures.memory given (to_play given told _ _ _ _ _ from (wish.served_is ∙ sym (ap is_handset c.listener_for-listener.ensures)) (wish.first_is ∙ makes_bare _ c.in-Play.is ∙ ap Some (sym c.in-Ok.ensures)) wish.store_is)
+    c.play_on_device.ensures.memory given wish.store_is (to_play given told _ _ _ _ from (wish.served_is ∙ sym (ap is_handset c.listener_for-listener.ensures)) (wish.first_is ∙ makes_bare _ c.in-Play.is ∙ ap Some (sym c.in-Ok.ensures)))
 
 pub returns-in-Open-clause-memory : goal.returns-in-Open-clause-memory
 returns-in-Open-clause-memory g c = λ given told from.
     let wish = from.is_asked c.in-Some.asked c.in-Some.ensures.so in
-    c.read_and_play-in-Open.ensures.memory given (to_play given told _ _ _ _ _ from (wish.served_is ∙ ap is_served_by c.in-Open.is) (wish.first_is ∙ ap first_of c.in-Open.is) wish.store_is)
+    c.play_on_device-in-Open.ensures.memory given wish.store_is (to_play given told _ _ _ _ from (wish.served_is ∙ ap is_served_by c.in-Open.is) (wish.first_is ∙ ap first_of c.in-Open.is))
 
 pub returns-in-Err-clause-memory : goal.returns-in-Err-clause-memory
 returns-in-Err-clause-memory g c = λ given told from. record { bytes = λ none kept. refl; half_made = λ some failed. absurd (cc); no_memory = λ some wanting. inl refl }
