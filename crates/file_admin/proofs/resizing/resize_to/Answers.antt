@@ -3,7 +3,7 @@ use Rattle.file_model.specs.Resizing.{resized_if_room}
 use Rattle.file_admin.proofs.AnswersTreeLemmas.{unchanged}
 use Rattle.file_admin.proofs.ResizingLemmas.{answers_same, nothing_passes, makes_none}
 use Rattle.file_admin.proofs.resizing.resize_to.Goals as goal
-use Rattle.std.proofs.Common.{[], Ok, Result, refl}
+use Rattle.std.proofs.Common.{[], Ok, Result}
 use Rattle.uicc_types.specs.declared.answers.StatusWord.{StatusWord}
 use Rattle.uicc_types.specs.declared.answers.TheConstants.StatusWord.{DONE}
 use Rattle.store_form.specs.declared.store.StoreFault.{StoreFault}
