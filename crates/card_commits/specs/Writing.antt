@@ -77,12 +77,12 @@ fit_pieces number node (Some file) =
     let new : Node = record node { place = file.place; size = file.size } in
     (if nat_lt node.size file.size then node_part number new 10 14 else node_part number new 12 14) ∷ []
 
--- The pieces that the commit of a change writes, in order, each bytes with their place, in a memory with this table: nothing but what a
--- person would name. Bytes, and a record of a linear file, are one piece; a new record 1 takes the oldest one's place, and then its file's
--- head is written. Of entries there are written the life cycle status; of a PIN the bytes from the first to the last field that is set; of a
--- new file all 16; of one that goes the byte that says it is used; of one that gets another size the size, with the place before it where
--- it grows. A new row is 51 bytes, the next sequence number, and the kept bytes that stand apart; one that goes, the byte that says it is
--- used; then its events, or the kept bytes with their length before them.
+-- The pieces that the commit of a change writes, in order, each bytes with their place, in a memory with this table. Bytes of a file, and a
+-- record of a linear fixed one, are one piece. A new record 1 stands in the place of the oldest one, and after it its file's head is written.
+-- Of a file's entry there is written its life cycle status; its size, with its place before that where it grows; the byte that says that it is
+-- used, where the file goes; and all 16 bytes of a new one. Of a PIN's slot there are written the bytes from the first field that is set to the
+-- last. A new row is 51 bytes, and after them come the next sequence number and the kept bytes that stand apart. Of a row there are written its
+-- events, its kept bytes with their length before them, or the byte that says that it is used.
 unfoldable pub pieces_of : Loaded → Change → List Piece
 pieces_of table (PutBytes number offset bytes) = record { place = (node_at table number).place + offset; bytes = bytes } ∷ []
 pieces_of table (PutRecord number index bytes) = record { place = (node_at table number).place + index * (node_at table number).length; bytes = bytes } ∷ []

@@ -15,9 +15,9 @@ pub data PinFields : Type 0 where
   OfEnabling : PinFields
   OfUnblocking : PinFields
 
--- A change: of a file by its number, bytes from an offset on, record `index + 1`, a new record 1, or the life cycle status; these fields of the
--- PIN with a key, among all PINs; a file that is made, that goes, or that has another place and size; of a shelf a new row, no row any
--- more, other events, or other kept bytes.
+-- A change. Of a file by its number: other bytes from an offset on, another record `index + 1`, a new record 1, or another life cycle status.
+-- Of PINs: these after it, of which the one with this key has these fields set. A file that comes, that goes by its number, or that has
+-- another place and size. On a shelf: a row that comes, no row any more, other events, or other kept bytes.
 pub data Change : Type 0 where
   PutBytes : ℕ → ℕ → List ℕ → Change
   PutRecord : ℕ → ℕ → List ℕ → Change

@@ -1,5 +1,5 @@
 -- What a command that makes, deletes or resizes a file has written, from what it comes to.
-use Rattle.std.proofs.Common.{◌≡◌, List, [], Option, Result, Ok, Err, ap, refl}
+use Rattle.std.proofs.Common.{◌≡◌, List, Option, Result, Ok, Err, ap, refl}
 use Rattle.uicc_types.specs.declared.answers.StatusWord.{StatusWord}
 use Rattle.store_form.specs.declared.store.StoreFault.{StoreFault}
 use Rattle.card_state.specs.Memory.{Memory, IsMounted}

@@ -3,7 +3,7 @@ use Rattle.std.proofs.Common.{◌≡◌, ◌≢◌, ◌⊎◌, ℕ, ◌+◌, ◌
 use Rattle.std.proofs.lemmas.Bool.{cond-false, cond-true, lt-ltb, le-ltb, ne_eqb}
 use Rattle.std.proofs.lemmas.List.{length-replicate}
 use Rattle.std.proofs.lemmas.Option.{get_or_from_slice_get}
-use Rattle.std.proofs.lemmas.Result.{on_ok_weaker, on_err_weaker}
+use Rattle.std.proofs.lemmas.Result.{on_err_weaker}
 use Rattle.list_laws.proofs.IfSomeLemmas.{if_some}
 use Rattle.list_laws.proofs.PatchesLemmas.{Torn_patched}
 use Rattle.list_laws.proofs.SliceRangeLemmas.{length-range}
@@ -33,7 +33,7 @@ use Rattle.layout_entries.specs.Spelling.{node_part}
 use Rattle.layout_laws.specs.Known.{NodesAreFiles, StandingIsOfTable}
 use Rattle.layout_laws.specs.Stores.{AgreeingStands}
 use Rattle.card_commits.specs.Prepared.{moved}
-use Rattle.card_commits.specs.Writing.{pieces_of, fit_pieces, moved_if, prepared_for, written, all_written, WritesPieces}
+use Rattle.card_commits.specs.Writing.{pieces_of, fit_pieces, moved_if, prepared_for, written, WritesPieces}
 use Rattle.card_commits.proofs.FilledLemmas.{Told, KeepsTo}
 use Rattle.card_commits.proofs.WritesAllLemmas.{one_written}
 use Rattle.file_admin.specs.Writes.{range_for, WritesTree, WritesOver}

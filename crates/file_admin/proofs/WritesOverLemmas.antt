@@ -4,21 +4,20 @@ use Rattle.std.proofs.lemmas.List.{length-replicate}
 use Rattle.std.proofs.lemmas.Result.{on_ok_weaker, on_err_weaker}
 use Rattle.list_laws.proofs.IfSomeLemmas.{if_some, if_some_at}
 use Rattle.list_laws.proofs.PatchesLemmas.{patched-nil}
-use Rattle.list_laws.specs.Patches.{patched, Torn}
+use Rattle.list_laws.specs.Patches.{Torn}
 use Rattle.uicc_types.specs.Told.{Becomes}
 use Rattle.uicc_types.specs.declared.answers.StatusWord.{StatusWord}
 use Rattle.uicc_types.specs.declared.identifiers.FileId.{FileId}
 use Rattle.store_form.specs.declared.store.StoreFault.{StoreFault}
 use Rattle.store_form.specs.Pieces.{Piece, applied}
 use Rattle.card_state.specs.declared.entries.Node.{Node}
-use Rattle.card_state.specs.declared.entries.Loaded.{Loaded}
 use Rattle.card_state.specs.declared.shapes.Shape.{Shape}
 use Rattle.card_state.specs.declared.shapes.Shape.TheVariants.{Transparent, Linear, Cyclic}
 use Rattle.card_state.specs.Blank.{unused_node}
 use Rattle.card_state.specs.Changes.{Change, MakeFile}
 use Rattle.card_state.specs.Memory.{Memory, held, IsMounted}
 use Rattle.card_state.specs.Kinds.{activated}
-use Rattle.card_state.specs.NewFiles.{width_of, ef_node}
+use Rattle.card_state.specs.NewFiles.{width_of}
 use Rattle.card_state.specs.Persistent.{Records, File, Persistent}
 use Rattle.card_state.specs.Places.{memory_size}
 use Rattle.card_state.specs.Sections.{kind_of, size_of, is_shape, blank_contents}
@@ -26,7 +25,6 @@ use Rattle.card_state.specs.Standing.{Stands}
 use Rattle.card_state.proofs.NewFileLemmas.{records_parts}
 use Rattle.file_model.specs.declared.asked.NewFile.{NewFile}
 use Rattle.file_model.specs.declared.asked.NewFile.TheVariants.{Df, Ef}
-use Rattle.file_model.specs.declared.descriptors.RuleReference.{RuleReference}
 use Rattle.file_model.specs.declared.selections.Selection.{Selection}
 use Rattle.file_model.specs.Creating.{rule_in, file_made}
 use Rattle.file_model.specs.Templates.{may_be_made}
@@ -40,9 +38,9 @@ use Rattle.card_commits.specs.Prepared.{filled}
 use Rattle.card_commits.specs.Writing.{pieces_of, prepared_for, written, all_written, entry_with, entry_ruled, record_width, WritesPieces}
 use Rattle.card_commits.proofs.FilledLemmas.{Told, IsWhole, KeepsTo, filled_keeps, torn_by}
 use Rattle.card_commits.proofs.WritesAllLemmas.{none_written, one_written}
-use Rattle.file_admin.specs.NewEntries.{node_made, pair_of}
+use Rattle.file_admin.specs.NewEntries.{node_made}
 use Rattle.file_admin.specs.Outcomes.{changes_by, TreeComesTo}
-use Rattle.file_admin.specs.Writes.{range_for, StopsPreparing, WritesTree, WritesOver}
+use Rattle.file_admin.specs.Writes.{StopsPreparing, WritesTree, WritesOver}
 use Rattle.file_admin.proofs.AnswersTreeLemmas.{of_held}
 
 -- ---- a commit over what was prepared

@@ -20,6 +20,7 @@ mod LifeCyclesLemmas
 pub mod NumbersAreEntriesLemmas
 mod OneFileLemmas
 mod OptionLemmas
+mod PassesChangesLemmas
 mod PinsLemmas
 pub mod RecordsLemmas
 pub mod RoomsLemmas

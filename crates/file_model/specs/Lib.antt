@@ -1,6 +1,7 @@
 pub mod Access
 pub mod Binaries
 pub mod Chains
+pub mod Changing
 pub mod Channels
 pub mod Commands
 pub mod Creating

@@ -1,8 +1,7 @@
 -- What a command comes to.
-use Rattle.std.specs.Prelude.{ℕ, not, ◌&&◌, ◌==◌, Bool, List, [], ◌∷◌, length, Option, Some, None, is_some, Result, Ok, Err}
+use Rattle.std.specs.Prelude.{ℕ, ◌==◌, Bool, List, [], ◌∷◌, Option, Some, None, Result, Ok, Err}
 use Rattle.uicc_types.specs.declared.answers.StatusWord.{StatusWord}
 use Rattle.uicc_types.specs.declared.answers.TheConstants.StatusWord.{NO_CURRENT_FILE, FILE_NOT_FOUND}
-use Rattle.apdu_form.specs.Model.{Apdu}
 use Rattle.card_state.specs.Changes.{Change}
 use Rattle.card_state.specs.Kinds.{deactivated}
 use Rattle.card_state.specs.Persistent.{Pin, Persistent}

@@ -1,6 +1,7 @@
 //! What holds of files and PINs, whatever a command is given. The functions do nothing: each one's contract is the law.
 ghost use Rattle.file_model.specs.declared.commands.FileCommand.{FileCommand};
 ghost use Rattle.file_model.specs.declared.commands.PinCommand.{PinCommand};
+ghost use Rattle.file_model.specs.Changing.{FilesPassChanges, PinsPassChanges};
 ghost use Rattle.file_model.specs.Commands.{file_outcome, pin_outcome};
 ghost use Rattle.file_model.specs.Guards.{GuardsPins, guard_of};
 ghost use Rattle.file_model.specs.Laws.{TablesTellFiles, FindsAmongEntries, NumbersAreEntries, ParentsComeFirst, FindsInFiveSearches, FindsNearest, FindsWholeParts, SpellsNumbers, IsLawfulCommand, IsLawfulPinCommand};
@@ -24,13 +25,17 @@ pub fn records_are_read()
 /// Each command on files keeps the card sound and the selection lawful, changes one file at most, and is refused in known
 /// ways alone, in which it changes nothing.
 pub fn commands_on_files_are_lawful()
-    ensures { (command : FileCommand) → IsLawfulCommand (file_outcome command) }
+    ensures lawful { (command : FileCommand) → IsLawfulCommand (file_outcome command) }
+    // The states that it passes are those after its changes.
+    ensures passes { FilesPassChanges }
 {}
 
 /// Each PIN command keeps the card sound and changes one PIN at most. Refused, it changes nothing, or, where a wrong value
 /// was presented, tries and the mark of the key alone.
 pub fn pin_commands_are_lawful()
-    ensures { (command : PinCommand) → IsLawfulPinCommand (pin_outcome command) }
+    ensures lawful { (command : PinCommand) → IsLawfulPinCommand (pin_outcome command) }
+    // The states with the PINs that it passes are those after its changes.
+    ensures passes { PinsPassChanges }
 {}
 
 /// Each value that is presented takes a try of its own before it is compared. No commit of a PIN command gives tries, but one

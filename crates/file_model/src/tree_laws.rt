@@ -1,4 +1,5 @@
 //! What holds of commands that make, delete and resize files. The functions do nothing: each one's contract is the law.
+ghost use Rattle.file_model.specs.Changing.{TreesPassChanges};
 ghost use Rattle.file_model.specs.RoomLaws.{RoomsAreSmallest, RoomsAreOne, ReadsTemplatesAlone, ReadsAllTemplates};
 ghost use Rattle.file_model.specs.OneFile.{CreatesOneFile, DeletesOneFile, ResizesOneFile};
 ghost use Rattle.file_model.specs.declared.tree_commands.TreeCommand.{TreeCommand};
@@ -26,7 +27,9 @@ pub fn templates_are_read()
 /// Each command keeps the card sound and every selection lawful, on all channels, commits at most once, and is refused in known
 /// ways alone, in which it changes nothing.
 pub fn commands_on_trees_are_lawful()
-    ensures { (command : TreeCommand) → IsLawfulTreeCommand (tree_outcome command) }
+    ensures lawful { (command : TreeCommand) → IsLawfulTreeCommand (tree_outcome command) }
+    // The states that it passes are those after its changes.
+    ensures passes { TreesPassChanges }
 {
     states_stay_sound();
 }

@@ -3,9 +3,9 @@ use Rattle.card_state.specs.Memory.{memory}
 use Rattle.file_model.specs.Binaries.{binary_file, binary_to_update, update_in, binary_updated}
 use Rattle.file_model.specs.Files.{descriptors_of}
 use Rattle.binary_commands.proofs.GivesLemmas.{file_gives, file_passes, refusal_gives}
-use Rattle.binary_commands.proofs.binaries.try_update.Goals as goal
 use Rattle.binary_commands.proofs.UpdateInLemmas.{update_makes}
 use Rattle.binary_commands.proofs.WritesLemmas.{settled_writes, file_writes, refusal_writes}
+use Rattle.binary_commands.proofs.binaries.try_update.Goals as goal
 
 pub returns-in-Ok-clause-gives : goal.returns-in-Ok-clause-gives
 unfolding binary_updated

@@ -5,16 +5,16 @@ use Rattle.card_state.specs.Persistent.{Persistent}
 use Rattle.card_state.specs.Changing.{with_bytes}
 use Rattle.card_state.specs.Memory.{held_by}
 use Rattle.card_state.specs.Standing.{standing}
+use Rattle.card_state.specs.Changes.{PutBytes}
 use Rattle.access_rules.specs.declared.rules.Op.TheVariants.{UpdateBinary}
 use Rattle.file_model.specs.Access.{may}
 use Rattle.file_model.specs.Binaries.{offset_of}
-use Rattle.binary_commands.proofs.GivesLemmas.{left_by}
-use Rattle.binary_commands.proofs.UpdateInLemmas.{update_changes, update_passes}
-use Rattle.binary_commands.proofs.binaries.update_file.Goals as goal
-use Rattle.card_state.specs.Changes.{PutBytes}
 use Rattle.card_commits.specs.Writing.{written}
 use Rattle.card_commits.proofs.WritesAllLemmas.{put_after, put_or_not}
+use Rattle.binary_commands.proofs.GivesLemmas.{left_by}
+use Rattle.binary_commands.proofs.UpdateInLemmas.{update_changes, update_passes}
 use Rattle.binary_commands.proofs.WritesLemmas.{puts_stopped, puts_nothing}
+use Rattle.binary_commands.proofs.binaries.update_file.Goals as goal
 
 pub returns-in_err-write_bytes-clause-passes : goal.returns-in_err-write_bytes-clause-passes
 returns-in_err-write_bytes-clause-passes g c =

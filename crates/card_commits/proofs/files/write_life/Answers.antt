@@ -1,15 +1,14 @@
-use Rattle.std.proofs.Common.{arith}
+use Rattle.std.proofs.Common.{arith, refl}
 use Rattle.card_state.specs.Changing.{with_life}
+use Rattle.card_state.specs.Changes.{PutLife}
 use Rattle.card_commits.specs.Entries.{with_node_at}
+use Rattle.card_commits.specs.Writing.{prepared_for}
 use Rattle.card_commits.proofs.CommittedLemmas.{stopped}
 use Rattle.card_commits.proofs.EntriesLemmas.{number_low, ef_there}
 use Rattle.card_commits.proofs.HasRecordLemmas.{one_usable, node_usable, life_long, life_commit}
 use Rattle.card_commits.proofs.DescriptorsOfLemmas.{life_told}
-use Rattle.card_commits.proofs.files.write_life.Goals as goal
-use Rattle.std.proofs.Common.{refl}
-use Rattle.card_state.specs.Changes.{PutLife}
-use Rattle.card_commits.specs.Writing.{prepared_for}
 use Rattle.card_commits.proofs.WritingLemmas.{writes, handed_on, life_pieces}
+use Rattle.card_commits.proofs.files.write_life.Goals as goal
 
 pub node_piece-requires-clause-entry : goal.node_piece-requires-clause-entry
 node_piece-requires-clause-entry g c = number_low c.cards_are_known.ensures.files _ _ c.args.loaded.now c.requires.mounted.agrees c.args.number c.node_of.result c.node_of.ensures.there

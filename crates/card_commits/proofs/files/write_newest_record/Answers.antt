@@ -4,15 +4,15 @@ use Rattle.store_form.specs.Pieces.{IsUsable}
 use Rattle.card_state.specs.declared.entries.Node.{Node}
 use Rattle.card_state.specs.Places.{memory_size}
 use Rattle.card_state.specs.Changing.{with_newest_record}
+use Rattle.card_state.specs.Changes.{PutNewest}
 use Rattle.card_commits.specs.Entries.{with_node_at}
+use Rattle.card_commits.specs.Writing.{prepared_for}
 use Rattle.card_commits.proofs.CommittedLemmas.{stopped}
 use Rattle.card_commits.proofs.HasRecordLemmas.{ring_lies, record_usable, record_below, two_usable, node_usable, head_long, newest_commit, oldest_low}
 use Rattle.card_commits.proofs.EntriesLemmas.{number_low}
 use Rattle.card_commits.proofs.DescriptorsOfLemmas.{head_untold}
-use Rattle.card_commits.proofs.files.write_newest_record.Goals as goal
-use Rattle.card_state.specs.Changes.{PutNewest}
-use Rattle.card_commits.specs.Writing.{prepared_for}
 use Rattle.card_commits.proofs.WritingLemmas.{writes, handed_on, newest_pieces}
+use Rattle.card_commits.proofs.files.write_newest_record.Goals as goal
 
 pub with_head_moved-node-requires-clause-width : goal.with_head_moved-node-requires-clause-width
 with_head_moved-node-requires-clause-width g c = (ring_lies c.files_are_found.ensures.number c.cards_are_known.ensures.files c.standing_files_hold.ensures.records _ _ c.args.loaded.now c.requires.mounted.agrees c.args.number c.node_of.result c.node_of.ensures.there (length c.args.bytes.now) c.requires.file).have.full.width

@@ -1,14 +1,12 @@
-use Rattle.std.proofs.Common.{sym}
+use Rattle.std.proofs.Common.{sym, refl}
+use Rattle.card_state.specs.States.{pins_of}
 use Rattle.card_commits.specs.Entries.{with_pin_at}
-use Rattle.card_commits.specs.Pins.{with_pin_changed}
+use Rattle.card_commits.specs.Pins.{with_pin_changed, put_pin}
+use Rattle.card_commits.specs.Writing.{prepared_for}
 use Rattle.card_commits.proofs.CommittedLemmas.{stopped}
 use Rattle.card_commits.proofs.PinsLemmas.{pin_commit, pins_told, span_usable}
-use Rattle.card_commits.proofs.pins.change_pin.Goals as goal
-use Rattle.std.proofs.Common.{refl}
-use Rattle.card_state.specs.States.{pins_of}
-use Rattle.card_commits.specs.Pins.{put_pin}
-use Rattle.card_commits.specs.Writing.{prepared_for}
 use Rattle.card_commits.proofs.WritingLemmas.{writes, handed_on, pin_pieces_put}
+use Rattle.card_commits.proofs.pins.change_pin.Goals as goal
 
 pub commit-requires-clause-usable : goal.commit-requires-clause-usable
 commit-requires-clause-usable g c = span_usable c.args.change c.args.slot c.applied-pin.result c.span-from.result c.pin_piece.new.writes c.pin_of.ensures.low c.pin_ranges.ensures c.span-from.ensures c.pin_piece.ensures

@@ -7,9 +7,9 @@ use Rattle.card_state.specs.States.{registration_of, rows_of}
 use Rattle.card_state.specs.Persistent.{Registration}
 use Rattle.layout_entries.specs.Spelling.{row_part}
 use Rattle.card_commits.specs.Entries.{row_at, with_row_at}
+use Rattle.card_commits.specs.Commits.{Commits}
 use Rattle.card_commits.proofs.RowsLemmas.{events_commit, rows_after, changed_rows, left_call_control}
 use Rattle.card_commits.proofs.rows.deregister.Goals as goal
-use Rattle.card_commits.specs.Commits.{Commits}
 
 pub returns-clause-committed : goal.returns-clause-committed
 returns-clause-committed g c = c.replace_events.ensures.committed (without_code_committed c.args.shelf.0 c.args.code)

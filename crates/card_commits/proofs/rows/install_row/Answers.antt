@@ -1,13 +1,13 @@
 use Rattle.std.proofs.Common.{◌+◌, Some, refl, ap, ◌∙◌, arith}
 use Rattle.std.proofs.lemmas.Result.{on_ok_weaker}
 use Rattle.card_state.specs.States.{registration_of, rows_of}
+use Rattle.card_state.specs.Changes.{AddRow}
 use Rattle.card_commits.specs.Entries.{with_row_at}
 use Rattle.card_commits.specs.Rows.{with_row_installed}
-use Rattle.card_commits.proofs.RowsLemmas.{installed_usable, install_commit, rows_after, placed_rows, few_rows}
-use Rattle.card_commits.proofs.rows.install_row.Goals as goal
-use Rattle.card_state.specs.Changes.{AddRow}
 use Rattle.card_commits.specs.Writing.{prepared_for}
+use Rattle.card_commits.proofs.RowsLemmas.{installed_usable, install_commit, rows_after, placed_rows, few_rows}
 use Rattle.card_commits.proofs.WritingLemmas.{writes, added_pieces}
+use Rattle.card_commits.proofs.rows.install_row.Goals as goal
 
 pub replace_row-requires-clause-usable : goal.replace_row-requires-clause-usable
 replace_row-requires-clause-usable g c =

@@ -2,13 +2,13 @@ use Rattle.std.proofs.Common.{refl, ap, ◌∙◌, arith}
 use Rattle.std.proofs.lemmas.Result.{on_ok_weaker}
 use Rattle.card_state.specs.Changing.{with_kept_committed}
 use Rattle.card_state.specs.States.{rows_of}
+use Rattle.card_state.specs.Changes.{PutKept}
 use Rattle.card_commits.specs.Entries.{with_row_at}
+use Rattle.card_commits.specs.Writing.{prepared_for}
 use Rattle.card_commits.proofs.HasRecordLemmas.{one_usable}
 use Rattle.card_commits.proofs.RowsLemmas.{part_usable, rows_after, changed_rows, kept_copied}
-use Rattle.card_commits.proofs.rows.keep_bytes.Goals as goal
-use Rattle.card_state.specs.Changes.{PutKept}
-use Rattle.card_commits.specs.Writing.{prepared_for}
 use Rattle.card_commits.proofs.WritingLemmas.{writes, kept_pieces_put}
+use Rattle.card_commits.proofs.rows.keep_bytes.Goals as goal
 
 pub replace_row-requires-clause-usable : goal.replace_row-requires-clause-usable
 replace_row-requires-clause-usable g c = one_usable _ c.row_piece.new.writes c.row_piece.ensures (part_usable c.args.shelf.0 18 _ _ c.row_of.ensures.low (omega arith) (omega (arith, c.requires.few)))

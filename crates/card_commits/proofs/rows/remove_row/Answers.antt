@@ -1,15 +1,14 @@
-use Rattle.std.proofs.Common.{None, ap, ◌∙◌, arith}
+use Rattle.std.proofs.Common.{None, ap, ◌∙◌, arith, refl}
 use Rattle.std.proofs.lemmas.Result.{on_ok_weaker}
 use Rattle.card_state.specs.States.{rows_of}
+use Rattle.card_state.specs.Changes.{TakeRow}
 use Rattle.card_commits.specs.Entries.{with_row_at}
 use Rattle.card_commits.specs.Rows.{without_row_on}
+use Rattle.card_commits.specs.Writing.{prepared_for}
 use Rattle.card_commits.proofs.HasRecordLemmas.{one_usable}
 use Rattle.card_commits.proofs.RowsLemmas.{part_usable, rows_after, placed_rows, removed_copied}
-use Rattle.card_commits.proofs.rows.remove_row.Goals as goal
-use Rattle.std.proofs.Common.{refl}
-use Rattle.card_state.specs.Changes.{TakeRow}
-use Rattle.card_commits.specs.Writing.{prepared_for}
 use Rattle.card_commits.proofs.WritingLemmas.{writes, taken_pieces}
+use Rattle.card_commits.proofs.rows.remove_row.Goals as goal
 
 pub replace_row-requires-clause-usable : goal.replace_row-requires-clause-usable
 replace_row-requires-clause-usable g c = one_usable _ c.row_piece.new.writes c.row_piece.ensures (part_usable c.args.shelf.0 0 1 _ c.row_of.ensures.low (omega arith) (omega arith))

@@ -1,13 +1,12 @@
-use Rattle.std.proofs.Common.{ap, ◌∙◌, arith}
+use Rattle.std.proofs.Common.{ap, ◌∙◌, arith, refl}
 use Rattle.card_state.specs.declared.entries.Row.{Row}
+use Rattle.card_state.specs.Changes.{PutEvents}
 use Rattle.card_commits.specs.Entries.{row_at}
+use Rattle.card_commits.specs.Writing.{prepared_for}
 use Rattle.card_commits.proofs.HasRecordLemmas.{one_usable}
 use Rattle.card_commits.proofs.RowsLemmas.{part_usable, carried}
-use Rattle.card_commits.proofs.rows.replace_events.Goals as goal
-use Rattle.std.proofs.Common.{refl}
-use Rattle.card_state.specs.Changes.{PutEvents}
-use Rattle.card_commits.specs.Writing.{prepared_for}
 use Rattle.card_commits.proofs.WritingLemmas.{writes, events_pieces}
+use Rattle.card_commits.proofs.rows.replace_events.Goals as goal
 
 pub replace_row-requires-clause-usable : goal.replace_row-requires-clause-usable
 replace_row-requires-clause-usable g c = one_usable _ c.row_piece.new.writes c.row_piece.ensures (part_usable c.args.shelf.0 5 7 _ c.row_of.ensures.low (omega arith) (omega arith))

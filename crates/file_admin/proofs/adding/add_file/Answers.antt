@@ -1,12 +1,11 @@
-use Rattle.std.proofs.Common.{refl}
-use Rattle.file_admin.proofs.IsWrittenOverLemmas.{committed_over, stopped_before}
-use Rattle.file_admin.proofs.adding.add_file.Goals as goal
-use Rattle.std.proofs.Common.{inl, arith}
+use Rattle.std.proofs.Common.{refl, inl, arith}
 use Rattle.card_state.proofs.RowPlaceLemmas.{data_end_inside}
 use Rattle.layout_entries.specs.Spelling.{node_part}
 use Rattle.card_commits.specs.Prepared.{filled}
 use Rattle.card_commits.proofs.FilledLemmas.{whole_of}
+use Rattle.file_admin.proofs.IsWrittenOverLemmas.{committed_over, stopped_before}
 use Rattle.file_admin.proofs.WritesOverLemmas.{writes_over, blank_keeps}
+use Rattle.file_admin.proofs.adding.add_file.Goals as goal
 
 pub returns-in-Ok-clause-committed : goal.returns-in-Ok-clause-committed
 returns-in-Ok-clause-committed g c = λ change.

@@ -1,17 +1,16 @@
-use Rattle.std.proofs.Common.{◌≡◌, false, refl, sym, subst, ℕ, IsTrue, IsSomeAnd}
+use Rattle.std.proofs.Common.{◌≡◌, false, refl, sym, subst, ℕ, IsTrue, IsSomeAnd, [], ◌∷◌, Ok, Err, Result}
+use Rattle.uicc_types.specs.declared.answers.StatusWord.{StatusWord}
+use Rattle.uicc_types.specs.declared.answers.TheConstants.StatusWord.{DONE, NO_ROOM}
+use Rattle.store_form.specs.declared.store.StoreFault.{StoreFault}
+use Rattle.card_state.specs.Changes.{MakeFile}
+use Rattle.card_state.specs.Memory.{memory}
 use Rattle.file_model.specs.declared.descriptors.Wanted.TheVariants.{Number}
 use Rattle.file_model.specs.Files.{descriptors_of, file_found, is_df}
 use Rattle.file_model.specs.Creating.{file_made, is_there, created_if_room}
 use Rattle.file_admin.proofs.AnswersTreeLemmas.{refused, not_still, carried_out, stopped}
 use Rattle.file_admin.proofs.CreatingLemmas.{full, change, named, passes_one, makes_one, beside, written, done_answers}
-use Rattle.file_admin.proofs.creating.create.Goals as goal
-use Rattle.std.proofs.Common.{[], ◌∷◌, Ok, Err, Result}
-use Rattle.uicc_types.specs.declared.answers.StatusWord.{StatusWord}
-use Rattle.uicc_types.specs.declared.answers.TheConstants.StatusWord.{DONE, NO_ROOM}
-use Rattle.store_form.specs.declared.store.StoreFault.{StoreFault}
-use Rattle.card_state.specs.Changes.{MakeFile}
 use Rattle.file_admin.proofs.WritesOverLemmas.{made_writes, made_stops, tree_makes, tree_refused}
-use Rattle.card_state.specs.Memory.{memory}
+use Rattle.file_admin.proofs.creating.create.Goals as goal
 
 pub add_file-requires-clause-free : goal.add_file-requires-clause-free
 add_file-requires-clause-free g c =

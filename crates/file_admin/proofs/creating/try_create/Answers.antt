@@ -3,8 +3,8 @@ use Rattle.apdu_form.specs.Classes.{channel_of}
 use Rattle.file_model.specs.Creating.{created_if_room, created}
 use Rattle.file_admin.proofs.AnswersTreeLemmas.{refused, alike, still_alike}
 use Rattle.file_admin.proofs.StandsLemmas.{listed}
-use Rattle.file_admin.proofs.creating.try_create.Goals as goal
 use Rattle.file_admin.proofs.WritesOverLemmas.{tree_comes, tree_refused}
+use Rattle.file_admin.proofs.creating.try_create.Goals as goal
 
 pub returns-in-Ok-clause-done : goal.returns-in-Ok-clause-done
 returns-in-Ok-clause-done g c =

@@ -1,17 +1,17 @@
 use Rattle.std.specs.Prelude.{false, Ok}
+use Rattle.std.proofs.Common.{refl}
+use Rattle.uicc_types.specs.declared.answers.StatusWord.{StatusWord}
+use Rattle.uicc_types.specs.declared.answers.TheConstants.StatusWord.{DONE}
+use Rattle.store_form.specs.declared.store.StoreFault.{StoreFault}
+use Rattle.card_state.specs.Changes.{TakeFile}
 use Rattle.file_model.specs.Deleting.{deleting}
+use Rattle.card_commits.specs.Writing.{prepared_for}
+use Rattle.card_commits.proofs.WritesAllLemmas.{one_writes, one_stops}
+use Rattle.card_commits.proofs.WritingLemmas.{writes, gone_pieces}
 use Rattle.file_admin.proofs.AnswersTreeLemmas.{not_still, carried_out, stopped}
 use Rattle.file_admin.proofs.IsWrittenOverLemmas.{commits_alone}
 use Rattle.file_admin.proofs.DeletingLemmas.{change, passes_one, written, done_answers}
 use Rattle.file_admin.proofs.deleting.delete.Goals as goal
-use Rattle.std.proofs.Common.{refl}
-use Rattle.card_state.specs.Changes.{TakeFile}
-use Rattle.card_commits.specs.Writing.{prepared_for}
-use Rattle.card_commits.proofs.WritesAllLemmas.{one_writes, one_stops}
-use Rattle.card_commits.proofs.WritingLemmas.{writes, gone_pieces}
-use Rattle.uicc_types.specs.declared.answers.StatusWord.{StatusWord}
-use Rattle.uicc_types.specs.declared.answers.TheConstants.StatusWord.{DONE}
-use Rattle.store_form.specs.declared.store.StoreFault.{StoreFault}
 
 pub returns-in-Ok-clause-done : goal.returns-in-Ok-clause-done
 returns-in-Ok-clause-done g c =

@@ -1,14 +1,13 @@
-use Rattle.std.proofs.Common.{refl}
-use Rattle.file_admin.proofs.IsWrittenOverLemmas.{committed_over, stopped_before}
-use Rattle.file_admin.proofs.growing.grow.Goals as goal
-use Rattle.std.proofs.Common.{◌+◌, ◌≤◌, inl, arith}
+use Rattle.std.proofs.Common.{refl, ◌+◌, ◌≤◌, inl, arith}
 use Rattle.card_state.specs.Places.{memory_size}
 use Rattle.card_state.proofs.RowPlaceLemmas.{data_end_inside}
 use Rattle.layout_entries.specs.Spelling.{node_part}
 use Rattle.card_commits.specs.Prepared.{moved}
 use Rattle.card_commits.proofs.FilledLemmas.{whole_of}
+use Rattle.file_admin.proofs.IsWrittenOverLemmas.{committed_over, stopped_before}
 use Rattle.file_admin.proofs.FitsLemmas.{moved_keeps, is_no_df}
 use Rattle.file_admin.proofs.WritesOverLemmas.{writes_over}
+use Rattle.file_admin.proofs.growing.grow.Goals as goal
 
 pub commit_node-requires-clause-entry : goal.commit_node-requires-clause-entry
 commit_node-requires-clause-entry g c =

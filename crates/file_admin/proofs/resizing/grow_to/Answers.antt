@@ -1,10 +1,14 @@
 -- The room found in the table is that of every state it stands for: with one the file grows there in a commit, without one it is refused.
-use Rattle.std.proofs.Common.{◌≡◌, ℕ, List, ◌<◌, sym, ◌∙◌, ap, subst, arith, ◌≢◌}
+use Rattle.std.proofs.Common.{◌≡◌, ℕ, List, ◌<◌, sym, ◌∙◌, ap, subst, arith, ◌≢◌, [], ◌∷◌, Some, Ok, Err, Result}
+use Rattle.uicc_types.specs.declared.answers.StatusWord.{StatusWord}
+use Rattle.uicc_types.specs.declared.answers.TheConstants.StatusWord.{DONE, NO_ROOM}
+use Rattle.store_form.specs.declared.store.StoreFault.{StoreFault}
 use Rattle.card_state.specs.declared.entries.Loaded.{Loaded}
 use Rattle.card_state.specs.Kinds.{transparent_kind}
 use Rattle.card_state.specs.Persistent.{Persistent}
 use Rattle.card_state.specs.Standing.{Stands}
 use Rattle.card_state.specs.States.{state_of}
+use Rattle.card_state.specs.Memory.{memory}
 use Rattle.file_model.specs.Resizing.{resized_if_room}
 use Rattle.file_model.specs.Rooms.{IsSmallestRoom, room_at}
 use Rattle.layout_entries.specs.Laws.{after}
@@ -14,14 +18,9 @@ use Rattle.file_admin.specs.Written.{with_file_resized}
 use Rattle.file_admin.proofs.AnswersTreeLemmas.{refused, not_still, carried_out, stopped}
 use Rattle.file_admin.proofs.StandsLemmas.{same_state}
 use Rattle.file_admin.proofs.ResizingLemmas.{is_transparent, same_size, transparent, without_room, fits_there, passes_one, makes_one, answers_so, grown_over, room_beside}
-use Rattle.file_admin.proofs.resizing.grow_to.Goals as goal
-use Rattle.std.proofs.Common.{[], ◌∷◌, Some, Ok, Err, Result}
-use Rattle.uicc_types.specs.declared.answers.StatusWord.{StatusWord}
-use Rattle.uicc_types.specs.declared.answers.TheConstants.StatusWord.{DONE, NO_ROOM}
-use Rattle.store_form.specs.declared.store.StoreFault.{StoreFault}
 use Rattle.file_admin.proofs.FitsLemmas.{fit, grown_told, grown_range, fit_writes, fit_stops}
 use Rattle.file_admin.proofs.WritesOverLemmas.{tree_makes, tree_refused}
-use Rattle.card_state.specs.Memory.{memory}
+use Rattle.file_admin.proofs.resizing.grow_to.Goals as goal
 
 pub grow-requires-clause-file : goal.grow-requires-clause-file
 grow-requires-clause-file g c =

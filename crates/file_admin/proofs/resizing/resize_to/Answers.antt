@@ -1,16 +1,15 @@
-use Rattle.std.proofs.Common.{◌≡◌, arith}
-use Rattle.file_model.specs.Resizing.{resized_if_room}
-use Rattle.file_admin.proofs.AnswersTreeLemmas.{unchanged}
-use Rattle.file_admin.proofs.ResizingLemmas.{answers_same, nothing_passes, makes_none}
-use Rattle.file_admin.proofs.resizing.resize_to.Goals as goal
-use Rattle.std.proofs.Common.{[], Ok, Result, refl}
+use Rattle.std.proofs.Common.{◌≡◌, arith, [], Ok, Result}
+use Rattle.list_laws.proofs.IfSomeLemmas.{if_some}
 use Rattle.uicc_types.specs.declared.answers.StatusWord.{StatusWord}
 use Rattle.uicc_types.specs.declared.answers.TheConstants.StatusWord.{DONE}
 use Rattle.store_form.specs.declared.store.StoreFault.{StoreFault}
-use Rattle.card_commits.proofs.WritesAllLemmas.{none_written}
-use Rattle.list_laws.proofs.IfSomeLemmas.{if_some}
-use Rattle.file_admin.proofs.WritesOverLemmas.{tree_makes}
 use Rattle.card_state.specs.Memory.{memory, held_by}
+use Rattle.file_model.specs.Resizing.{resized_if_room}
+use Rattle.card_commits.proofs.WritesAllLemmas.{none_written}
+use Rattle.file_admin.proofs.AnswersTreeLemmas.{unchanged}
+use Rattle.file_admin.proofs.ResizingLemmas.{answers_same, nothing_passes, makes_none}
+use Rattle.file_admin.proofs.WritesOverLemmas.{tree_makes}
+use Rattle.file_admin.proofs.resizing.resize_to.Goals as goal
 
 pub returns-clause-done : goal.returns-clause-done
 returns-clause-done g c =

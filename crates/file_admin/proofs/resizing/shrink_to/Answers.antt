@@ -1,23 +1,21 @@
-use Rattle.std.proofs.Common.{◌≡◌, sym, subst, arith, ◌≢◌}
-use Rattle.card_state.specs.declared.entries.Loaded.{Loaded}
-use Rattle.card_state.specs.Kinds.{transparent_kind}
-use Rattle.card_state.specs.Standing.{Stands}
-use Rattle.file_model.specs.Resizing.{resized_if_room}
-use Rattle.layout_entries.specs.Laws.{after}
-use Rattle.layout_entries.specs.Spelling.{node_part}
-use Rattle.file_admin.specs.Written.{with_file_resized}
-use Rattle.file_admin.proofs.AnswersTreeLemmas.{not_still, carried_out, stopped}
-use Rattle.file_admin.proofs.IsWrittenOverLemmas.{commits_alone}
-use Rattle.file_admin.proofs.ResizingLemmas.{is_transparent, same_size, fits_fewer, passes_one, makes_one, answers_so, shrunk_over}
-use Rattle.file_admin.proofs.resizing.shrink_to.Goals as goal
-use Rattle.std.proofs.Common.{◌<◌, [], ◌∷◌, Ok, Err, Result}
+use Rattle.std.proofs.Common.{◌≡◌, sym, subst, arith, ◌≢◌, ◌<◌, [], ◌∷◌, Ok, Err, Result}
 use Rattle.uicc_types.specs.declared.answers.StatusWord.{StatusWord}
 use Rattle.uicc_types.specs.declared.answers.TheConstants.StatusWord.{DONE}
 use Rattle.store_form.specs.declared.store.StoreFault.{StoreFault}
-use Rattle.file_admin.specs.Written.{as_it_was}
+use Rattle.card_state.specs.declared.entries.Loaded.{Loaded}
+use Rattle.card_state.specs.Kinds.{transparent_kind}
+use Rattle.card_state.specs.Standing.{Stands}
+use Rattle.card_state.specs.Memory.{memory}
+use Rattle.file_model.specs.Resizing.{resized_if_room}
+use Rattle.layout_entries.specs.Laws.{after}
+use Rattle.layout_entries.specs.Spelling.{node_part}
+use Rattle.file_admin.specs.Written.{with_file_resized, as_it_was}
+use Rattle.file_admin.proofs.AnswersTreeLemmas.{not_still, carried_out, stopped}
+use Rattle.file_admin.proofs.IsWrittenOverLemmas.{commits_alone}
+use Rattle.file_admin.proofs.ResizingLemmas.{is_transparent, same_size, fits_fewer, passes_one, makes_one, answers_so, shrunk_over}
 use Rattle.file_admin.proofs.FitsLemmas.{fit, shrunk_told, shrunk_range, over_nothing, fit_writes, fit_stops}
 use Rattle.file_admin.proofs.WritesOverLemmas.{tree_makes}
-use Rattle.card_state.specs.Memory.{memory}
+use Rattle.file_admin.proofs.resizing.shrink_to.Goals as goal
 
 pub returns-in-Ok-clause-done : goal.returns-in-Ok-clause-done
 returns-in-Ok-clause-done g c =

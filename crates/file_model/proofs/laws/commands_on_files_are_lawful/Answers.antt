@@ -5,17 +5,21 @@ use Rattle.file_model.proofs.SelectingLemmas.{file_selected_so, status_told_so}
 use Rattle.file_model.proofs.BinariesLemmas.{binary_read_so, binary_updated_so}
 use Rattle.file_model.proofs.RecordsLemmas.{record_read_so, record_updated_so, searched_so, increased_so}
 use Rattle.file_model.proofs.LifeCyclesLemmas.{file_deactivated_so, file_activated_so}
+use Rattle.file_model.proofs.PassesChangesLemmas.{files_pass}
 use Rattle.file_model.proofs.laws.commands_on_files_are_lawful.Goals as goal
 
-pub returns : goal.returns
+pub returns-clause-lawful : goal.returns-clause-lawful
 unfolding file_outcome contents_outcome
-returns c Select = file_selected_so
-returns c Status = status_told_so
-returns c (Contents ReadBinary) = binary_read_so
-returns c (Contents UpdateBinary) = binary_updated_so
-returns c (Contents ReadRecord) = record_read_so
-returns c (Contents UpdateRecord) = record_updated_so
-returns c (Contents SearchRecord) = searched_so
-returns c (Contents Increase) = increased_so
-returns c (Contents Deactivate) = file_deactivated_so
-returns c (Contents Activate) = file_activated_so
+returns-clause-lawful c Select = file_selected_so
+returns-clause-lawful c Status = status_told_so
+returns-clause-lawful c (Contents ReadBinary) = binary_read_so
+returns-clause-lawful c (Contents UpdateBinary) = binary_updated_so
+returns-clause-lawful c (Contents ReadRecord) = record_read_so
+returns-clause-lawful c (Contents UpdateRecord) = record_updated_so
+returns-clause-lawful c (Contents SearchRecord) = searched_so
+returns-clause-lawful c (Contents Increase) = increased_so
+returns-clause-lawful c (Contents Deactivate) = file_deactivated_so
+returns-clause-lawful c (Contents Activate) = file_activated_so
+
+pub returns-clause-passes : goal.returns-clause-passes
+returns-clause-passes c = files_pass

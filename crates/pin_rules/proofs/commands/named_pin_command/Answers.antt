@@ -3,17 +3,17 @@ use Rattle.std.proofs.Common.{◌≡◌, Ok, Result, length, refl, sym, ◌∙�
 use Rattle.std.proofs.lemmas.Bool.{false≢true}
 use Rattle.list_laws.proofs.IfSomeLemmas.{on_err}
 use Rattle.uicc_types.specs.declared.answers.StatusWord.{StatusWord}
-use Rattle.store_form.specs.declared.store.StoreFault.{StoreFault}
 use Rattle.uicc_types.specs.Counts.{raised_by}
+use Rattle.store_form.specs.declared.store.StoreFault.{StoreFault}
 use Rattle.card_state.specs.States.{pins_of}
 use Rattle.card_state.specs.Memory.{memory}
 use Rattle.file_model.specs.Commands.{pin_settled}
 use Rattle.file_model.specs.Outcomes.{PinOutcome}
+use Rattle.card_commits.proofs.WritesAllLemmas.{stopped_writes}
 use Rattle.pin_rules.specs.Outcomes.{IsCarriedOut, IsPinCutShort}
 use Rattle.pin_rules.proofs.OutcomesLemmas.{settled, stopped_same, performs, stopped, only_tells, one_less}
-use Rattle.pin_rules.proofs.commands.named_pin_command.Goals as goal
-use Rattle.card_commits.proofs.WritesAllLemmas.{stopped_writes}
 use Rattle.pin_rules.proofs.PutsLemmas.{command_writes}
+use Rattle.pin_rules.proofs.commands.named_pin_command.Goals as goal
 
 pub returns-in_err-out-clause-performs : goal.returns-in_err-out-clause-performs
 returns-in_err-out-clause-performs g c =

@@ -2,13 +2,13 @@
 use Rattle.std.proofs.Common.{OnOk, subst, ap, ◌∙◌}
 use Rattle.apdu_form.specs.Model.{Apdu}
 use Rattle.card_state.specs.States.{pins_of}
-use Rattle.file_model.specs.declared.commands.PinCommand.{PinCommand}
-use Rattle.pin_rules.specs.Outcomes.{LeavesOneLess, pin_by_byte}
-use Rattle.pin_rules.proofs.commands.pin_command.Goals as goal
 use Rattle.card_state.specs.Memory.{memory}
+use Rattle.file_model.specs.declared.commands.PinCommand.{PinCommand}
 use Rattle.file_model.specs.Commands.{first_fields, second_fields, pin_settled}
 use Rattle.file_model.specs.Pins.{pins_put}
 use Rattle.card_commits.specs.Performing.{WritesAll}
+use Rattle.pin_rules.specs.Outcomes.{LeavesOneLess, pin_by_byte}
+use Rattle.pin_rules.proofs.commands.pin_command.Goals as goal
 
 pub returns-clause-guessed : goal.returns-clause-guessed
 returns-clause-guessed g c =

@@ -1,17 +1,16 @@
 -- Whatever change a right value brings, it gives all tries back; each of the four endings is told by the PIN that the slot shows then.
 use Rattle.std.proofs.Common.{◌-◌, refl, sym, ◌∙◌, arith, bytes_eq}
+use Rattle.uicc_types.specs.declared.answers.TheConstants.StatusWord.{DONE}
 use Rattle.card_state.specs.States.{pin_state}
 use Rattle.card_state.specs.Memory.{memory}
 use Rattle.file_model.specs.Pins.{pin_presented}
 use Rattle.card_commits.specs.declared.pins.PinChange.TheVariants.{Tries}
 use Rattle.card_commits.specs.Entries.{pin_at}
-use Rattle.card_commits.specs.Pins.{changed_pin}
+use Rattle.card_commits.specs.Pins.{changed_pin, fields_of}
 use Rattle.pin_rules.proofs.IsTriedLemmas.{first_failed, was_wrong, second_failed, was_right}
 use Rattle.pin_rules.proofs.PresentPinLemmas.{sound_pin, tries_shown, tries_there, restored_shown}
-use Rattle.pin_rules.proofs.presenting.present_pin.Goals as goal
-use Rattle.uicc_types.specs.declared.answers.TheConstants.StatusWord.{DONE}
-use Rattle.card_commits.specs.Pins.{fields_of}
 use Rattle.pin_rules.proofs.PutsLemmas.{key_before, key_after_tries, first_stops, wrong_writes, second_stops, right_writes}
+use Rattle.pin_rules.proofs.presenting.present_pin.Goals as goal
 
 pub change_pin-requires-clause-tries : goal.change_pin-requires-clause-tries
 change_pin-requires-clause-tries g c = omega (arith, (sound_pin c.cards_are_known.ensures.card c.cards_are_known.ensures.pins _ _ c.args.loaded.now c.args.held.now.slot c.args.held.now.pin c.requires.held c.requires.mounted.agrees).tries)

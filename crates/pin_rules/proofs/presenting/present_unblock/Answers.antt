@@ -1,18 +1,17 @@
 -- The slot shows one unblocking try less after the first commit and the unblocked PIN after the second; a fault may stop either.
-use Rattle.std.proofs.Common.{◌-◌, true, sym, ◌∙◌, arith, bytes_eq}
+use Rattle.std.proofs.Common.{◌-◌, true, sym, ◌∙◌, arith, bytes_eq, refl}
+use Rattle.uicc_types.specs.declared.answers.TheConstants.StatusWord.{DONE}
 use Rattle.card_state.specs.States.{pin_state}
 use Rattle.card_state.specs.Memory.{memory}
+use Rattle.card_state.specs.Changes.{OfUnblocking}
 use Rattle.file_model.specs.Pins.{marked, unblock_presented}
 use Rattle.card_commits.specs.declared.pins.PinChange.TheVariants.{UnblockTries, Unblocked}
 use Rattle.card_commits.specs.Entries.{pin_at}
 use Rattle.card_commits.specs.Pins.{changed_pin}
 use Rattle.pin_rules.proofs.IsTriedLemmas.{first_failed, was_wrong, second_failed, was_right}
 use Rattle.pin_rules.proofs.PresentPinLemmas.{sound_pin, unblock_shown, unblock_there, unblocked_shown}
-use Rattle.pin_rules.proofs.presenting.present_unblock.Goals as goal
-use Rattle.uicc_types.specs.declared.answers.TheConstants.StatusWord.{DONE}
-use Rattle.std.proofs.Common.{refl}
-use Rattle.card_state.specs.Changes.{OfUnblocking}
 use Rattle.pin_rules.proofs.PutsLemmas.{key_before, key_after_unblock, first_stops, wrong_writes, second_stops, right_writes}
+use Rattle.pin_rules.proofs.presenting.present_unblock.Goals as goal
 
 pub change_pin-requires-clause-tries : goal.change_pin-requires-clause-tries
 change_pin-requires-clause-tries g c = omega (arith, (sound_pin c.cards_are_known.ensures.card c.cards_are_known.ensures.pins _ _ c.args.loaded.now c.args.held.now.slot c.args.held.now.pin c.requires.held c.requires.mounted.agrees).unblock_tries)

@@ -4,18 +4,18 @@ use Rattle.list_laws.proofs.IfSomeLemmas.{on_err, if_some, if_some_at}
 use Rattle.card_state.specs.Persistent.{Persistent}
 use Rattle.card_state.specs.Changing.{with_newest_record}
 use Rattle.card_state.specs.Memory.{held_by}
+use Rattle.card_state.specs.Changes.{PutNewest}
 use Rattle.access_rules.specs.declared.rules.Op.TheVariants.{Increase}
 use Rattle.file_model.specs.Access.{may}
 use Rattle.file_model.specs.Outcomes.{settled_file}
 use Rattle.file_model.specs.Records.{sum_to_write, increase_in}
+use Rattle.card_commits.proofs.WritesAllLemmas.{put_after, put_or_not}
 use Rattle.binary_commands.proofs.GivesLemmas.{left_by}
+use Rattle.binary_commands.proofs.WritesLemmas.{puts_stopped, puts_nothing}
 use Rattle.record_commands.proofs.SettledFileLemmas.{one_passes, one_changes, reads_held, increase_passed}
 use Rattle.record_commands.proofs.increasing.increase_file.Given.{Over}
 use Rattle.record_commands.proofs.increasing.increase_file.Goals.{In-Ok}
 use Rattle.record_commands.proofs.increasing.increase_file.Goals as goal
-use Rattle.card_state.specs.Changes.{PutNewest}
-use Rattle.card_commits.proofs.WritesAllLemmas.{put_after, put_or_not}
-use Rattle.binary_commands.proofs.WritesLemmas.{puts_stopped, puts_nothing}
 
 passed : (g : Over) (c : In-Ok g) (state : Persistent) → held_by g.S.Store c.args.store.now ≡ Some state
     → (settled_file c.args.selection.now (increase_in state c.args.seen.now c.args.selection.now c.args.command.now c.args.file.now)).passed ≡ with_newest_record c.args.file.now.number c.in-Ok.sum state ∷ []

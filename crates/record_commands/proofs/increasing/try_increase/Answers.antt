@@ -1,10 +1,10 @@
+use Rattle.std.proofs.Common.{Err}
 use Rattle.card_state.specs.Memory.{memory}
 use Rattle.file_model.specs.Records.{file_to_increase, increase_in, increased}
 use Rattle.binary_commands.proofs.GivesLemmas.{file_gives, file_passes, refusal_gives}
-use Rattle.record_commands.proofs.increasing.try_increase.Goals as goal
-use Rattle.std.proofs.Common.{Err}
 use Rattle.binary_commands.proofs.WritesLemmas.{settled_writes, file_writes, refusal_writes}
 use Rattle.record_commands.proofs.PutsLemmas.{increase_makes}
+use Rattle.record_commands.proofs.increasing.try_increase.Goals as goal
 
 pub returns-in-Ok-clause-gives : goal.returns-in-Ok-clause-gives
 unfolding increased

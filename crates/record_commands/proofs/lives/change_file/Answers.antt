@@ -1,21 +1,20 @@
 -- A life cycle status that is new passes one state: a fault leaves that or the one before, and all other files are as they were.
-use Rattle.std.proofs.Common.{◌≡◌, Option, Some, [], ◌∷◌, refl, sym, ◌∙◌, true, rules, ne_eqb}
+use Rattle.std.proofs.Common.{◌≡◌, Option, Some, [], ◌∷◌, refl, sym, ◌∙◌, true, rules, ne_eqb, eq-eqb}
 use Rattle.list_laws.proofs.IfSomeLemmas.{on_err, if_some, if_some_at}
 use Rattle.card_state.specs.Persistent.{Persistent}
 use Rattle.card_state.specs.Changing.{with_life}
 use Rattle.card_state.specs.Memory.{held_by}
+use Rattle.card_state.specs.Changes.{PutLife}
 use Rattle.file_model.specs.Access.{may}
 use Rattle.file_model.specs.Files.{descriptors_of}
 use Rattle.file_model.specs.Outcomes.{settled_file}
 use Rattle.file_model.specs.LifeCycles.{life_in}
+use Rattle.card_commits.proofs.WritesAllLemmas.{none_written, put_after, put_or_not}
 use Rattle.binary_commands.proofs.GivesLemmas.{left_by}
+use Rattle.binary_commands.proofs.WritesLemmas.{puts_stopped, puts_nothing}
 use Rattle.record_commands.proofs.KeepsSelectionsLemmas.{told_keeps}
 use Rattle.record_commands.proofs.SettledFileLemmas.{one_passes, one_changes, reads_held, life_passed}
 use Rattle.record_commands.proofs.lives.change_file.Goals as goal
-use Rattle.std.proofs.Common.{eq-eqb}
-use Rattle.card_state.specs.Changes.{PutLife}
-use Rattle.card_commits.proofs.WritesAllLemmas.{none_written, put_after, put_or_not}
-use Rattle.binary_commands.proofs.WritesLemmas.{puts_stopped, puts_nothing}
 
 pub returns-in_err-write_life-clause-passes : goal.returns-in_err-write_life-clause-passes
 returns-in_err-write_life-clause-passes g c =

@@ -7,14 +7,14 @@ use Rattle.access_rules.specs.declared.rules.Op.TheVariants.{UpdateRecord}
 use Rattle.file_model.specs.Access.{may}
 use Rattle.file_model.specs.Outcomes.{settled_file}
 use Rattle.file_model.specs.Records.{number_to_update, record_update_in}
+use Rattle.card_commits.proofs.WritesAllLemmas.{put_after, put_or_not}
 use Rattle.binary_commands.proofs.GivesLemmas.{left_by}
+use Rattle.binary_commands.proofs.WritesLemmas.{puts_stopped, puts_nothing}
+use Rattle.record_commands.specs.Updating.{record_written, put_record}
 use Rattle.record_commands.proofs.SettledFileLemmas.{one_passes, one_changes, reads_held, update_passed}
 use Rattle.record_commands.proofs.updating.update_file.Given.{Over}
 use Rattle.record_commands.proofs.updating.update_file.Goals.{In-Ok}
 use Rattle.record_commands.proofs.updating.update_file.Goals as goal
-use Rattle.record_commands.specs.Updating.{record_written, put_record}
-use Rattle.card_commits.proofs.WritesAllLemmas.{put_after, put_or_not}
-use Rattle.binary_commands.proofs.WritesLemmas.{puts_stopped, puts_nothing}
 
 passed : (g : Over) (c : In-Ok g) (state : Persistent) → held_by g.S.Store c.args.store.now ≡ Some state
     → (settled_file c.args.selection.now (record_update_in state c.args.seen.now c.args.selection.now c.args.command.now c.args.file.now)).passed ≡ record_written c.args.file.now c.in-Ok.number c.args.command.now.body state ∷ []
