@@ -23,10 +23,10 @@ returns-clause-committed g c = rw (c.from.ensures, sym c.pin_of.ensures.value) (
 pub returns-in_err-commit-clause-writes : goal.returns-in_err-commit-clause-writes
 unfolding prepared_for
 returns-in_err-commit-clause-writes g c = rw (sym c.pin_of.ensures.value)
-    (    handed_on _ _ (put_pin c.args.change (pins_of c.args.loaded.now) c.pin_of.result) _ c.from_residual.result c.from_residual.ensures.0
+    (handed_on _ _ (put_pin c.args.change (pins_of c.args.loaded.now) c.pin_of.result) _ c.from_residual.result c.from_residual.ensures.0
     (writes _ _ _ _ c.args.loaded.now _ (put_pin c.args.change (pins_of c.args.loaded.now) c.pin_of.result) c.requires.mounted.agrees (pin_pieces_put c.cards_are_known.ensures.table c.cards_are_known.ensures.pins _ _ c.args.loaded.now c.requires.mounted.agrees c.args.slot c.pin_of.result c.pin_of.ensures.there c.args.change c.applied-pin.result c.span-from.result.0 c.span-from.result.1 _ c.applied-pin.ensures c.span-from.ensures c.pin_piece.ensures) (λ content. refl) c.in_err-commit.ensures.pieces))
 
 pub returns-clause-writes : goal.returns-clause-writes
 unfolding prepared_for
 returns-clause-writes g c = rw (sym c.pin_of.ensures.value)
-    (record { ok = (    writes _ _ _ _ c.args.loaded.now _ (put_pin c.args.change (pins_of c.args.loaded.now) c.pin_of.result) c.requires.mounted.agrees (pin_pieces_put c.cards_are_known.ensures.table c.cards_are_known.ensures.pins _ _ c.args.loaded.now c.requires.mounted.agrees c.args.slot c.pin_of.result c.pin_of.ensures.there c.args.change c.applied-pin.result c.span-from.result.0 c.span-from.result.1 _ c.applied-pin.ensures c.span-from.ensures c.pin_piece.ensures) (λ content. refl) c.in_ok-commit.ensures.pieces).ok; whole = tt })
+    (record { ok = (writes _ _ _ _ c.args.loaded.now _ (put_pin c.args.change (pins_of c.args.loaded.now) c.pin_of.result) c.requires.mounted.agrees (pin_pieces_put c.cards_are_known.ensures.table c.cards_are_known.ensures.pins _ _ c.args.loaded.now c.requires.mounted.agrees c.args.slot c.pin_of.result c.pin_of.ensures.there c.args.change c.applied-pin.result c.span-from.result.0 c.span-from.result.1 _ c.applied-pin.ensures c.span-from.ensures c.pin_piece.ensures) (λ content. refl) c.in_ok-commit.ensures.pieces).ok; whole = tt })
