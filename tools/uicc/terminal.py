@@ -40,8 +40,20 @@ def called():
 NOT_READ_ON = 2
 
 
+def open_missing():
+    """Opens the standard files that a tool was started without, as by `>&-`: what it writes there goes nowhere, and it reads nothing there."""
+    for number, name, flags, mode in ((0, "stdin", os.O_RDONLY, "r"), (1, "stdout", os.O_WRONLY, "w"), (2, "stderr", os.O_WRONLY, "w")):
+        if getattr(sys, name) is None:
+            nowhere = os.open(os.devnull, flags)
+            if nowhere != number:
+                os.dup2(nowhere, number)
+                os.close(nowhere)
+            setattr(sys, name, open(number, mode, encoding="utf-8", closefd=False))
+
+
 def ended(main):
     """Runs a tool, and answers its status. Where nobody reads on what it writes, or it is interrupted, it ends with no more words."""
+    open_missing()
     try:
         try:
             status = main()
