@@ -16,7 +16,7 @@ import difflib
 import re
 
 from . import decode, names, tlv
-from .card import PROFILE, CardError, PowerLost, as_answer, as_bytes
+from .card import PROFILE, CardError, PowerLost, as_answer, as_bytes, expect_number
 from .grammar import Handset, Plan, Reset, Wrong, read_line
 
 SELECT_MF = bytes.fromhex("00A4000C023F00")
@@ -24,6 +24,7 @@ STATUS = bytes.fromhex("80F2000C")
 MEMORY_PROBLEM, BUSY_TOOLKIT = "6581", "9300"
 # the most commands that are sent for one line
 MOST_COMMANDS = 65_535
+MOST_DIGITS, LONGEST_PLACE, MOST_SECONDS = 20, 32, 999_999_999
 MOST_ITEMS, LONGEST_TITLE = 16, 10
 MOST_TIMERS = 8
 LATEST = (99, 59, 59)
@@ -256,6 +257,13 @@ def with_data(ins, data):
     return bytes((0x80, ins, 0, 0, len(data))) + data
 
 
+def typed(text):
+    """The bytes of what is typed."""
+    if not isinstance(text, str) or not re.fullmatch("[ -~]*", text):
+        raise ValueError(f"what is typed is a text of printable characters of ASCII, and not {text!r}")
+    return text.encode("ascii")
+
+
 def is_known(command, profile):
     """Whether a terminal profile tells of a proactive command."""
     name = names.of_toolkit("commands", command.kind)
@@ -308,10 +316,12 @@ class Terminal:
 
     def type(self, text: str) -> None:
         """The user types what the card asks for; nothing happens where its length doesn't fit."""
-        self._line(lambda: self._type(text.encode("ascii")))
+        content = typed(text)
+        self._line(lambda: self._type(content))
 
     def pick(self, item: int) -> None:
         """The user picks an item of what there is to choose from, or else of the menu."""
+        expect_number("an item", item, 1, 255)
         self._line(lambda: self._pick(item))
 
     def press(self) -> None:
@@ -324,11 +334,16 @@ class Terminal:
 
     def dial(self, digits: str) -> None:
         """The user sets up a call, of which the card is asked."""
+        if not isinstance(digits, str) or not re.fullmatch(f"[0-9]{{1,{MOST_DIGITS}}}", digits):
+            raise ValueError(f"what is dialled is a text of 1 to {MOST_DIGITS} decimal digits, and not {digits!r}")
         self._line(lambda: self._dial(digits))
 
     def tell_place(self, content: bytes | str) -> None:
         """The network tells where the handset is."""
-        self.place = as_bytes(content)
+        place = as_bytes(content)
+        if not 1 <= len(place) <= LONGEST_PLACE:
+            raise ValueError(f"a location has 1 to {LONGEST_PLACE} bytes, and not {len(place)}")
+        self.place = place
         self._line(self._tell_place)
 
     def poll(self) -> None:
@@ -337,6 +352,7 @@ class Terminal:
 
     def wait(self, seconds: int) -> None:
         """So many seconds pass: each timer that is due meanwhile is reported."""
+        expect_number("how many seconds pass", seconds, 0, MOST_SECONDS)
         self._line(lambda: None, seconds)
 
     def happen(self, said: Reset | Plan | Handset) -> None:

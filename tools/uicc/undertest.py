@@ -146,6 +146,8 @@ class InPython(UnderTest):
     """A handset in Python, or one that a test derived from it."""
     name = "the handset in Python"
     seconds = 0
+    # also where the `__init__` of a class derived from it doesn't call this one
+    make, terminal = staticmethod(Terminal), None
 
     def __init__(self, make=Terminal):
         self.make, self.terminal = make, None
