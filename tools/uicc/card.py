@@ -673,7 +673,7 @@ class Card:
         if not isinstance(item, int) or not 0 <= item <= 0xFF:
             raise ValueError(f"an entry of the menu is picked by its number, of one byte, and not by {item!r}")
         if not self._is_profile_sent:
-            raise CardError("the card tells its menu once it knows the terminal: `profile()` comes first, and after each reset")
+            raise CardError("the card tells its menu once it knows the terminal: a `profile` comes first, and after each reset")
         # where the definitions don't say what the applets do, the menu that was fetched last does
         entries = self._menu if self._toolkit.doubt else {number: text.decode("latin-1") for number, text in self._toolkit.menu().items()}
         if entries is not None and item not in entries:

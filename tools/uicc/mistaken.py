@@ -50,8 +50,10 @@ def kind_of(content):
 
 
 def expect(content, path, *wanted):
-    """Mistaken, where a file's bytes are of a kind that isn't wanted."""
+    """Mistaken, where a file's bytes are of a kind that isn't wanted, or of none and no text at all."""
     kind = kind_of(content)
+    if kind is None and IMAGE not in wanted and b"\0" in content:
+        raise Mistaken(f"{path} is no text: a byte 00 stands in line {content[:content.index(0)].count(10) + 1}")
     if kind and kind not in wanted:
         what, by = ABOUT[kind]
         raise Mistaken(f"{path} is {what}: {by}")
