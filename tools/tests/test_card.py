@@ -179,7 +179,7 @@ class Cards(unittest.TestCase):
             for prepare in (lambda: None, lambda: (card.profile(), card.reset()), lost):
                 prepare()
                 sent = len(card.trace)
-                with self.assertRaisesRegex(CardError, "tells its menu once it knows the terminal: `profile\\(\\)` comes first"):
+                with self.assertRaisesRegex(CardError, "tells its menu once it knows the terminal: a `profile` comes first"):
                     card.pick(2)
                 self.assertEqual(len(card.trace), sent)
 

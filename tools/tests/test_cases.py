@@ -421,6 +421,10 @@ class Expect(unittest.TestCase):
         done = self.expect(self.put("script", "start\napdu 00A4000C023F00\n#< 90*\n"))
         self.assertEqual(done.returncode, 1)
         self.assertIn("a mistake in the case: line 3 of the file: `*` stands for any answer alone", done.stdout)
+        told = "what is noted is compared as it stands: `*` and `..` are characters of it"
+        for note, is_told in (("text H*", True), ("text H..", True), ("text Ho", False)):
+            done = self.expect(self.put("script", f"start\nuser ok\n#* {note}\n"), "--phone")
+            self.assertEqual((done.returncode, told in done.stdout), (1, is_told), note)
 
     def test_what_fits_is_left(self):
         text = "start\napdu 00A4000C023F00\n#< 6A82 | < 9000\n"

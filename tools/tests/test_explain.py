@@ -263,6 +263,13 @@ class Explain(unittest.TestCase):
         self.assertEqual(self.explain("/no/such/file").returncode, 2)
         done = self.explain(text="hello\x01\n")
         self.assertEqual((done.returncode, done.stdout, done.stderr), (1, "", "explain: line 1 is no line of a trace: hello?\n"))
+        for content, why in ((b"\n\n\xFF\n", "the file is no text in UTF-8: the byte FF stands in line 3, at 1"), (b"\n\0\xFF\n", "a byte 00 stands in line 2")):
+            with tempfile.NamedTemporaryFile() as file:
+                file.write(content)
+                file.flush()
+                done = self.explain(file.name)
+            self.assertEqual((done.returncode, done.stdout), (2, ""))
+            self.assertIn(why, done.stderr)
 
     def test_script_of_a_handset(self):
         day = os.path.join(EXAMPLES, "day")
@@ -286,7 +293,17 @@ class Explain(unittest.TestCase):
         """The script of another trace is told, and none of its lines is shown with this one."""
         done = self.explain(os.path.join(EXAMPLES, "pins.trace"), "--script", os.path.join(EXAMPLES, "usim.script"))
         self.assertEqual(done.returncode, 1)
-        self.assertRegex(done.stderr, r"usim\.script: it is none of this trace, which shows [0-9A-F]+ where line \d+ is `apdu ")
+        self.assertRegex(done.stderr, r"usim\.script: it is none of this trace, which shows [0-9A-F]+ where line \d+ is `apdu .*`; its card is taken all the "
+                                      "same\n")
+
+    def test_a_trace_with_times(self):
+        """Of a trace that the tools kept the script says what the card holds: its lines after `start` are other ones."""
+        lines = ["@ 1764497000.123456", "! reset", "> 00A4080C047F206F07", "< 9000", "> 00B0000009", "< 6982"]
+        for words in ((), ("--phone",)):
+            done = self.explain("--script", os.path.join(EXAMPLES, "usim.script"), *words, text="".join(line + "\n" for line in lines))
+            self.assertEqual((done.returncode, done.stderr), (0, ""))
+            self.assertIn("rule 2F06:2 asks for PIN 1 to read; PIN 1 isn't verified", done.stdout)
+            self.assertNotIn("VERIFY", done.stdout)
 
     def test_a_script_with_a_wrong_line(self):
         """It shows nothing after that line: where the trace doesn't end there, it is another one's."""

@@ -127,6 +127,26 @@ class OverTheCard(unittest.TestCase):
                     terminal.answers[name] = reply
         self.assertEqual(list(handset.Answers({"type 6F": handset.BUSY})), ["type 6F"])
 
+    # a call, and why what it is given can't be
+    NONE = [
+        ("type", 5, "what is typed is a text of printable characters of ASCII, and not 5"), ("type", "Gr\u00fc\u00dfe", "printable characters of ASCII"),
+        ("pick", "2", "an item is a number from 1 to 255, and not '2'"), ("pick", 0, "an item is a number from 1 to 255, and not 0"),
+        ("dial", 123, "what is dialled is a text of 1 to 20 decimal digits, and not 123"), ("dial", "+123", "decimal digits, and not '+123'"),
+        ("wait", -1, "how many seconds pass is a number from 0 to 999999999, and not -1"), ("wait", "1", "and not '1'"),
+        ("tell_place", "", "a location has 1 to 32 bytes, and not 0"), ("tell_place", bytes(33), "1 to 32 bytes, and not 33"),
+    ]
+
+    def test_what_can_not_happen(self):
+        """What is given to a call is told where it can't be, and nothing comes of it."""
+        with Card(MENU) as card:
+            terminal = Terminal(card)
+            terminal.start()
+            before, clock, place = list(card.trace), terminal.clock, terminal.place
+            for name, given, why in self.NONE:
+                with self.subTest(call=name, given=given), self.assertRaisesRegex(ValueError, re.escape(why)):
+                    getattr(terminal, name)(given)
+            self.assertEqual((card.trace, terminal.clock, terminal.place), (before, clock, place))
+
     def test_a_handset_that_is_not_on(self):
         """What happens at it before it is switched on is told as a mistake."""
         for act in (lambda terminal: terminal.pick(2), lambda terminal: terminal.ok(), lambda terminal: terminal.line("user press")):

@@ -1,8 +1,9 @@
 """What is wrong with lines and scripts, by tables."""
 import os
+import tempfile
 import unittest
 
-import common  # noqa: F401 (the path)
+from common import in_process
 from uicc import cases, grammar, lint, process, stored
 
 EXAMPLES = os.path.join(process.TOP, "examples")
@@ -254,6 +255,21 @@ class Scripts(unittest.TestCase):
             if name.endswith(".script"):
                 script = stored.read(os.path.join(EXAMPLES, name))
                 self.assertIsNone(lint.read(script.decode(process.ENCODING), stored.mode_of(script)).first(), name)
+
+
+class Tool(unittest.TestCase):
+    def test_tables_of_applets(self):
+        """Bytes that are passed over at the end of a table are told, and of another kind they are what it keeps."""
+        rows = ("row 6 1 0140004009", "row 13 1 014000400955FF", "row 20 1 014000400955", "row 5 1 0140004009", "row 27 1 014000")
+        with tempfile.TemporaryDirectory() as folder:
+            path = os.path.join(folder, "a.script")
+            with open(path, "w", encoding="ascii") as out:
+                out.write("".join(row + "\n" for row in rows) + "start\n")
+            done = in_process("lint", path)
+        self.assertEqual((done.returncode, done.stderr), (0, ""))
+        self.assertEqual([line for line in done.stdout.splitlines() if not line.startswith("    ")], [
+            f"{path}:1: warning: the table of the applet on shelf 6 ends with 2 bytes of a triple, which has 3: passed over",
+            f"{path}:2: warning: the table of the applet on shelf 13 ends with 1 byte of a triple, which has 3: passed over"])
 
 
 if __name__ == "__main__":

@@ -41,10 +41,13 @@ class Kinds(unittest.TestCase):
         (["sequence", "a.sequence", "--on", "none.py:X"], "none.py: no file is there"),
         (["sequence", "a.sequence", "--on", "a.sequence:X"], "a.sequence is no file of Python"),
         (["reader", "list.csv"], "list.csv is a list of cards: "), (["reader", "card.img"], "card.img is the image of a card: "),
+        (["lint", "any.pcapng"], "any.pcapng is no text: a byte 00 stands in line 2"), (["expect", "any.pcapng"], "any.pcapng is no text: "),
+        (["explain", "any.pcapng"], "any.pcapng is no text: "), (["sequence", "any.pcapng"], "any.pcapng is no text: "),
         (["cuts", "card.script", "--again"], "card.script has no line after `start` that sends a command or resets the card"),
     ]
     FILES = {"card.script": b"df 7F10\nstart\n", "card.toml": b'like = "usim"\n', "card.img": b"UICC" + bytes(image.JOURNAL_SIZE - 4),
-             "a.sequence": b"sequence one\ncommand MORE TIME\nresponse result 00\n", "card.trace": b"! reset\n", "list.csv": b"iccid\n8999901000000000005\n"}
+             "a.sequence": b"sequence one\ncommand MORE TIME\nresponse result 00\n", "card.trace": b"! reset\n", "list.csv": b"iccid\n8999901000000000005\n",
+             "any.pcapng": b"\n\r\r\0\n"}
 
     def test_kinds(self):
         for content, kind in self.TABLE:

@@ -470,7 +470,8 @@ class Tool(unittest.TestCase):
         ((USIM, "--profile", ""), "1 to 255 bytes, and not 0"), ((USIM, "--cut", "0"), "numbers from 1 on, and not 0"), ((USIM, "--cut", "x:1"), "numbers from 1 on"), ((USIM, "--poll", "-1"), "SECONDS are a number"),
         ((USIM, "--listen", "127.0.0.1:0", "--pty"), "not allowed with"), ((USIM, "--unix", "/nowhere/modem"), "modem: "),
         (("nowhere.script",), "nowhere.script"),
-        ((USIM, "--listen", "192.0.2.1:12345"), "modem: "), ((USIM, "--listen", "no.such.host.invalid:1"), "modem: "),
+        ((USIM, "--listen", "192.0.2.1:12345"), "modem: 192.0.2.1 is no address of this machine: --listen 127.0.0.1:12345 is one"),
+        ((USIM, "--listen", "no.such.host.invalid:1"), "modem: no.such.host.invalid is no address of this machine"),
         ((os.path.join(EXAMPLES, "day.trace"),), "day.trace is a trace: tools/explain shows it"), (("--image", "nowhere.img"), "nowhere.img"),
     ]
 

@@ -231,6 +231,13 @@ class Tool(unittest.TestCase):
         self.assertIn("/nowhere/a.trace", ran.stderr)
         self.assertNotIn("Traceback", ran.stderr)
 
+    @unittest.skipIf(MISSING, f"oFono isn't here: {MISSING}")
+    def test_traces_that_cant_be_kept(self):
+        """A file in the place of the folder is told before anything is tried."""
+        with tempfile.NamedTemporaryFile() as file:
+            ran = self.ran("--keep", file.name)
+            self.assertEqual((ran.returncode, ran.stdout, ran.stderr), (2, "", f"ofono: {file.name} is a file, and a folder is wanted\n"))
+
     def test_the_script_is_not_written_over(self):
         with tempfile.TemporaryDirectory() as folder:
             path = os.path.join(folder, "a.script")

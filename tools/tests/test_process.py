@@ -150,8 +150,16 @@ class ClosedPipes(unittest.TestCase):
         ("explain", ["usim.trace"], ""), ("capture", ["usim.trace", "-"], ""), ("lint", ["bad.script"], ""), ("profile", ["tree", "usim.script"], ""),
         ("definitions", ["--word", "card"], ""), ("shell", ["usim.script"], "tree\ntree\n"), ("cuts", ["update.script"], ""),
         ("expect", ["update.script"], ""), ("cuts", ["--help"], ""), ("reader", ["--help"], ""), ("release", ["--help"], ""), ("check", ["--help"], ""),
-        ("documents", ["--help"], ""),
+        ("documents", ["--help"], ""), ("sequence", ["--words"], ""), ("sequence", ["polling.sequence"], ""),
+        ("sequence", ["wrong.sequence", "--tap"], ""),
     ]
+
+    def run_without(self, name, words, text="", **files):
+        """Runs a tool; the warning that the sources are other ones than those of the program has no place here."""
+        words = [os.path.join(self.EXAMPLES, "sequences" if word.endswith(".sequence") else "", word) if word[:1] != "/" and "." in word else word
+                 for word in words]
+        return subprocess.run([*files.pop("before", ()), sys.executable, "-B", os.path.join(TOOLS, name), *words], input=text, stderr=subprocess.PIPE,
+                              text=True, timeout=300, check=False, env=os.environ | {"UICC_RUN": process.program()}, **files)
 
     def test_quietly(self):
         with tempfile.TemporaryDirectory() as folder:
@@ -159,16 +167,32 @@ class ClosedPipes(unittest.TestCase):
             with open(bad, "w", encoding="ascii") as out:
                 out.write("no such line\n" * 2000)
             for name, words, text in self.TOOLS:
-                words = [bad if word == "bad.script" else os.path.join(self.EXAMPLES, word) if "." in word else word for word in words]
+                words = [bad if word == "bad.script" else word for word in words]
                 reading, writing = os.pipe()
                 os.close(reading)
                 with self.subTest(tool=name, words=words):
-                    done = subprocess.run([sys.executable, "-B", os.path.join(TOOLS, name), *words], input=text, stdout=writing,
-                                          stderr=subprocess.PIPE, text=True, timeout=120, check=False)
+                    done = self.run_without(name, words, text, stdout=writing)
                     # a page of help is passed over by Python's own parser where nobody reads it
                     self.assertIn(done.returncode, (0, terminal.NOT_READ_ON) if "--help" in words else (terminal.NOT_READ_ON,))
                     self.assertEqual(done.stderr, "")
                 os.close(writing)
+
+    # a tool without standard output, and the status that it ends with all the same
+    MISSING = [
+        ("lint", ["usim.script"], 0), ("lint", ["day.script"], 1), ("explain", ["usim.trace"], 0), ("capture", ["usim.trace", "-"], 0),
+        ("profile", ["tree", "usim.script"], 0), ("cuts", ["update.script"], 0), ("sequence", ["--words"], 0), ("sequence", ["wrong.sequence"], 1),
+        ("applet", ["list"], 0), ("cuts", ["--help"], 0), ("shell", ["usim.script"], 0),
+    ]
+
+    def test_standard_files_that_are_missing(self):
+        """A tool that is started without standard output or standard input does its work all the same."""
+        for name, words, status in self.MISSING:
+            with self.subTest(tool=name, words=words):
+                done = self.run_without(name, words, before=["sh", "-c", 'exec "$@" >&-', "sh"])
+                self.assertEqual((done.returncode, done.stderr), (status, ""))
+        done = self.run_without("lint", ["-"], before=["sh", "-c", 'exec "$@" <&-', "sh"], stdout=subprocess.PIPE)
+        self.assertEqual((done.returncode, done.stdout.splitlines()[:1], done.stderr),
+                         (1, ["-:1: the script ends, and no line `start` stands in it"], ""))
 
 
 if __name__ == "__main__":

@@ -185,6 +185,20 @@ class Reader(unittest.TestCase):
         for part in ("listens on all addresses", "`Virtual PCD 00 00` at this port and `Virtual PCD 00 01` at the next one"):
             self.assertIn(part, told)
 
+    # words that are refused, and why
+    REFUSED = [
+        (["--port", "99999"], "a port is 1 to 65535, and not 99999"), (["--port", "x"], "a port is 1 to 65535, and not x"),
+        (["--cut", "0"], "[N:]K are numbers from 1 on, and not 0"), (["--cut", "1:x"], "[N:]K are numbers from 1 on, and not 1:x"),
+    ]
+
+    def test_words_that_are_refused(self):
+        for words, why in self.REFUSED:
+            with self.subTest(words=words):
+                done = subprocess.run([sys.executable, "-B", os.path.join(TOOLS, "reader"), self.script, *words], capture_output=True, text=True,
+                                      timeout=120, check=False)
+                self.assertEqual(done.returncode, 2)
+                self.assertIn(why, done.stderr)
+
     def test_signal(self):
         told = self.start(self.script)
         with self.accepted() as link:

@@ -151,6 +151,8 @@ class Files(unittest.TestCase):
         ("command SHOW TEXT", "`SHOW` is no command"), ("command DISPLAY TXT", "is `DISPLAY TEXT` or `DISPLAY MULTIMEDIA MESSAGE` meant?"),
         ("command SELECT", "`SELECT` is no command: is `SELECT ITEM` meant?"), ("command GET text A", "`GET text"),
         ("command LANGUAGE NOTIFY", "is `LANGUAGE NOTIFICATION` meant?"), ("command display text text A", "is `DISPLAY TEXT` or `DISPLAY MULTIMEDIA MESSAGE` meant?"),
+        ("command DISPLAY TXT text \"A\"", "`DISPLAY TXT` is no command"), ("command GET CHANNEL STATUT text A", "`GET CHANNEL STATUT` is no command"),
+        ("response 00", "`00` is no object: each begins with its name, as `result 00`"),
         ("command DISPLAY TEXT txt \"A\"", "`txt` is no object: is `text` meant?"),
         ("response from network result 00", "`from` is no object: `from DEVICE` stands before the objects"),
         ("envelope event events 04 from keypad", "as in `envelope event from display events idle-screen`"),
@@ -1486,7 +1488,9 @@ class Tool(unittest.TestCase):
                     ((good, "--on", folder + "/made.py:Made"), "made.py:3\n"),
                     ((good, "--on", folder + "/ends.py:Ends"), "the terminal can't be closed: ZeroDivisionError: division by zero, at "),
                     ((good, "--card", os.path.join(folder, "none")), "no file is there"), ((good, "--card", good), "is a file of sequences: tools/sequence plays it"),
-                    ((good, "--seconds", "x"), "invalid"), ((good, "--seconds", "-1"), "invalid"), ((good, "--seconds", "0"), "invalid")):
+                    ((good, "--seconds", "x"), "N is a number of seconds above 0 and below 1000, and not x"),
+                    ((good, "--seconds", "-1"), "below 1000, and not -1"), ((good, "--seconds", "0"), "below 1000, and not 0"),
+                    ((good, "--seconds", "1e2"), "below 1000, and not 1e2"), ((good, "--seconds", "nan"), "below 1000, and not nan")):
                 with self.subTest(words=words):
                     done = tool(*words)
                     self.assertEqual(done.returncode, 2)

@@ -146,6 +146,16 @@ class Interface(unittest.TestCase):
         found = {name: str(value) for name, value in vars(undertest.UnderTest).items() if not name.startswith("_") and not inspect.isfunction(value)}
         self.assertEqual(self.rows("value"), found)
 
+    def test_a_class_that_makes_itself(self):
+        """A handset in Python may have an `__init__` of its own that doesn't call the one it derives from."""
+        class Own(undertest.InPython):
+            def __init__(self):
+                self.mine = 1
+
+        found = [one for one in in_the_box() if one.name == "GET INKEY, any character"]
+        self.assertEqual([kind for kind, _ in verdicts(Own(), found).values()], [verdict.PASSED] * len(found))
+        self.assertTrue(found)
+
     def test_the_player(self):
         given = player.Player(None)
         for called in self.rows("call"):

@@ -338,6 +338,7 @@ def permitted(expectation, turn):
 ANY_ANSWER = "< *"
 OPEN = ".."
 OF_BYTES = ("< ", "> ")
+NOTE = "* "
 LEAST_ANSWER = 4
 
 

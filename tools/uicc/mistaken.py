@@ -23,6 +23,8 @@ OF_TRACE = re.compile(rb"[<>] [0-9A-Fa-f]+\s*|! (?:reset|cut|off)\s*|\* .*|@ [0-
 
 # what Notepad and other programs put before a text in UTF-8
 BYTE_ORDER_MARK = b"\xEF\xBB\xBF"
+# how a text in UTF-16 begins, which is none in UTF-8
+OF_UTF_16 = (b"\xFF\xFE", b"\xFE\xFF")
 
 
 def is_profile(content):
@@ -50,8 +52,10 @@ def kind_of(content):
 
 
 def expect(content, path, *wanted):
-    """Mistaken, where a file's bytes are of a kind that isn't wanted."""
+    """Mistaken, where a file's bytes are of a kind that isn't wanted, or of none and no text at all."""
     kind = kind_of(content)
+    if kind is None and IMAGE not in wanted and b"\0" in content and not content.startswith(OF_UTF_16):
+        raise Mistaken(f"{path} is no text: a byte 00 stands in line {content[:content.index(0)].count(10) + 1}")
     if kind and kind not in wanted:
         what, by = ABOUT[kind]
         raise Mistaken(f"{path} is {what}: {by}")

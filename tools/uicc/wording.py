@@ -48,8 +48,8 @@ def unknown(words, what, known):
     """What is said where the next words make none of some names: of those the ones that may be meant."""
     begins = [name for name in known if name.split()[0].lower() == words[0].lower()]
     near = sorted(begins or [name for name in known if likeness(words, name) >= LIKE], key=lambda name: -likeness(words, name))[:MOST_HINTS]
-    # of a name of several words that begins so, as many are told as it has
-    count = max((len(name.split()) for name in begins), default=1)
+    # of a name of several words that begins so, as many are told as the likeliest has
+    count = len(near[0].split()) if begins else 1
     hint = f": is {' or '.join(f'`{name}`' for name in near)} meant?" if near else ""
     return UnknownWord(f"`{' '.join(words[:count])}` is no {what}{hint}")
 
@@ -373,6 +373,8 @@ def read_object(words):
     if word in NO_OBJECTS:
         raise Wrong(f"`{word}` is no object: {NO_OBJECTS[word]}")
     if word not in OBJECTS:
+        if re.fullmatch("[0-9A-Fa-f]{2}", word):
+            raise Wrong(f"`{word}` is no object: each begins with its name, as `result {word}`")
         raise unknown([word, *words.left], "object", OBJECTS)
     tag, value = OBJECTS[word]
     return Object(tag, value(words), None, optional)
