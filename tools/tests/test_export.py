@@ -55,7 +55,7 @@ class Export(unittest.TestCase):
         self.assertIn('adm = { value = "91111111", unblock = "11111111" }\n', self.again(other))
         self.assertIn("ADM1: 88888888, enabled, 3 tries left, can't be unblocked", list(tree.lines(card)))
         lines = shown(card, other)
-        self.assertEqual(lines[lines.index("ADM1"):][:3], ["ADM1", "- 88888888, on", "+ 91111111, on"])
+        self.assertEqual(lines[lines.index("ADM1"):][:3], ["ADM1", "- 88888888, enabled", "+ 91111111, enabled"])
         with self.assertRaisesRegex(profile.BadProfile, r'adm = \{ value = "88888888" \}$'):
             made('like = "usim"\n[pins]\nadm = "88888888"\n')
 
