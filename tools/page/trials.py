@@ -404,7 +404,7 @@ def terms(browser):
     play(browser, "play", GUARDED + "apdu 00A4000C023F00\napdu 00A40004023F00\n")
     browser.wait(CARD_IS_SHOWN)
     trace, card = (browser.evaluate(f"document.getElementById('{part}').innerText") for part in ("trace", "files"))
-    for words, text in (("no data returned", trace), ("PIN 1 enabled", trace), ("PIN 1 enabled, 1234, 3 tries left; unblocked by 12345678", card),
+    for words, text in (("no data returned", trace), ("PIN 1 enabled", trace), ("PIN 1 enabled, 1234, 3 tries left; UNBLOCK PIN 12345678", card),
                         ("ADM1 enabled, 88888888, 3 tries left; can't be unblocked", card), ("kept data", card)):
         expect(f"whether `{words}` is said", words in text, True)
     return "words of the standard"

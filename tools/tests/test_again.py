@@ -151,6 +151,7 @@ class Again(unittest.TestCase):
         (["--all", "--shard", "3/2"], "3/2 is no part"),
         (["--all", "--shard", "two"], "two is no part"),
         (["--picture", "x.svg"], "--picture draws what --all and --again try"),
+        (["--all", "--picture", "x.PNG"], "--picture draws an SVG, and no PNG: x.svg"),
         (["--all", "--jobs", "0"], "0 is no number from 1 on"),
     ]
 

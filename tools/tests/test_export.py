@@ -55,7 +55,7 @@ class Export(unittest.TestCase):
         self.assertIn('adm = { value = "91111111", unblock = "11111111" }\n', self.again(other))
         self.assertIn("ADM1: 88888888, enabled, 3 tries left, can't be unblocked", list(tree.lines(card)))
         lines = shown(card, other)
-        self.assertEqual(lines[lines.index("ADM1"):][:3], ["ADM1", "- 88888888, on", "+ 91111111, on"])
+        self.assertEqual(lines[lines.index("ADM1"):][:3], ["ADM1", "- 88888888, enabled", "+ 91111111, enabled"])
         with self.assertRaisesRegex(profile.BadProfile, r'adm = \{ value = "88888888" \}$'):
             made('like = "usim"\n[pins]\nadm = "88888888"\n')
 
@@ -158,7 +158,7 @@ class Differing(unittest.TestCase):
           "- holds: 0141" + "FF" * 15, "+ holds: 0141" + "FF" * 16]),
         ('[EF_ADN]\nentries = [{ name = "A", number = "1" }]', "", ["7F10/6F3A EF.ADN", "- record 1: A: 1", "+ record 1: blank"]),
         ("", '["7F10/6F99"]\nsize = 1', ["7F10/6F99", "+ EF, 1 byte, rule 2F06:1"]),
-        ('[pins]\npin1 = { on = false }', "", ["PIN 1", "- 1234, off, unblocked by 12345678", "+ 1234, on, unblocked by 12345678"]),
+        ('[pins]\npin1 = { on = false }', "", ["PIN 1", "- 1234, disabled, UNBLOCK PIN 12345678", "+ 1234, enabled, UNBLOCK PIN 12345678"]),
         ('[[applet]]\nkind = "greeter"', "", ["applet on shelf 0", "- greets, priority 1, events none, keeps nothing"]),
         # the other one has the same rules by other numbers
         ('[EF_PL]\nupdate = "adm"', '[EF_PL]\nupdate = "adm"\n["7F10/6F99"]\nsize = 1\nread = "never"', ["2F06 EF.ARR", "- shape: linear fixed, 6 records of 27", "+ shape: linear fixed, 7 records of 27", "- record 6: read: always; update: adm",

@@ -395,7 +395,7 @@ class Command(unittest.TestCase):
         with tempfile.TemporaryDirectory() as folder:
             dump, given = os.path.join(folder, "card.dump"), os.path.join(folder, "card.toml")
             for content, reason in ((b"\xFF\x00nothing\n", "it is a binary file"), (b"UICC" + bytes(65_532), "is the image of a card: "),
-                                    (b"\xFF" * 71_680, "it is an image of a card"), (b"\x7FELF\x00", "it is a binary file"),
+                                    (b"\xFF" * 71_680, "is the image of a card: tools/profile tree shows it"), (b"\x7FELF\x00", "it is a binary file"),
                                     (b"pin 01 31\nstart\n", "is a script: "), (b"nothing\n", "has no file that a card here can hold")):
                 with open(dump, "wb") as out:
                     out.write(content)

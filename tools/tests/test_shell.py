@@ -30,6 +30,11 @@ class Shell(unittest.TestCase):
         ("verify pin1 1234\nupdate EF.ADN 3 text Berta\nread EF.ADN 3\ntree\n", 0, ["Berta: +999901005550", "3: Berta: +999901005550"]),
         ("verify PIN1 1234\n", 0, ["9000"]), ("verify pin1 0000\ntree\n", 1, ["63C2", "PIN 1: 1234, enabled, 2 tries left"]),
         ("verify PIN3 1234\n", 1, ["no PIN is called `PIN3`: pin1, pin2 and adm are"]),
+        ("verify CHV1 1234\n", 1, ["no PIN is called `CHV1`: pin1, pin2 and adm are, of which `pin1` is meant"]),
+        ("cd 7F20\n", 1, ["no word `cd` is known: is `select` meant? help lists them"]),
+        (ADM + "update EF.SPN text \"Foo Bar\"\nread EF.SPN\n", 1, ["nothing is written: the quotes would be a part of the text, which is written "
+                                                                   "as it stands: text Foo Bar", "Example"]),
+        (ADM + "update EF.SPN text 3\" disk\nread EF.SPN\n", 0, ['3" disk']),
         ("verify pin1 12\n", 1, ["a PIN is four to eight digits, or eight bytes as 16 hexadecimal digits, and not `12`"]),
         ("verify pin1 abcd\n", 1, ["and not `abcd`"]),
         ("change PIN1 1234 4321\nverify PIN1 4321\ntree\n", 0, ["  9000\n3F00 MF> ", "PIN 1: 4321, enabled"]),

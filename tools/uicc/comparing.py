@@ -140,8 +140,8 @@ def pin_words(pin):
     """What a PIN holds; of ADM1 without what would unblock it, which nothing does."""
     if pin is None:
         return None
-    unblocked = "" if pin.key == layout.ADM else f", unblocked by {decode.pin_value(pin.unblock)}"
-    return f"{decode.pin_value(pin.value)}, {'on' if pin.enabled else 'off'}{unblocked}"
+    unblocked = "" if pin.key == layout.ADM else f", UNBLOCK PIN {decode.pin_value(pin.unblock)}"
+    return f"{decode.pin_value(pin.value)}, {'enabled' if pin.enabled else 'disabled'}{unblocked}"
 
 
 def row_words(row):

@@ -19,10 +19,10 @@ CREATE_FILE, DELETE_FILE, RESIZE_FILE = 0xE0, 0xE4, 0xD4
 OWN_CLASS = 0xF0
 PINS = (0x20, 0x24, 0x26, 0x28, 0x2C)
 PROACTIVE = 0xD0
-SELECTIONS = {0: "by identifier", 3: "the parent", 4: "by name", 8: "by path from the MF", 9: "by path"}
+SELECTIONS = {0: "by identifier", 3: "the parent", 4: "by DF name (AID)", 8: "by path from the MF", 9: "by path"}
 # the seconds of a unit of time: minutes, seconds, tenths
 UNITS = (60, 1, 0.1)
-RECORD_MODES = {2: "the next record", 3: "the record before"}
+RECORD_MODES = {2: "the next record", 3: "the previous record"}
 
 
 def hexed(content):

@@ -91,7 +91,7 @@ def lines(card, with_contents=True, whole=False):
     for pin in sorted(card.pins.values(), key=lambda pin: (0x01, 0x81, 0x0A).index(pin.key)):
         state = "enabled" if pin.enabled else "disabled"
         unblocked = ("can't be unblocked" if pin.key == layout.ADM else
-                     f"unblocked by {decode.pin_value(pin.unblock)}, {pin.unblock_tries} tries left")
+                     f"UNBLOCK PIN {decode.pin_value(pin.unblock)}, {pin.unblock_tries} tries left")
         yield f"{names.key(pin.key)}: {decode.pin_value(pin.value)}, {state}, {pin.tries} tries left, {unblocked}"
     for row in sorted(card.rows.values(), key=lambda row: row.shelf):
         known = kinds.of_program()

@@ -39,8 +39,8 @@ export const DISABLE_PIN = 0x26;
 export const ENABLE_PIN = 0x28;
 export const UNBLOCK_PIN = 0x2c;
 export const PINS = [VERIFY_PIN, CHANGE_PIN, DISABLE_PIN, ENABLE_PIN, UNBLOCK_PIN];
-const SELECTIONS = { 0: "by identifier", 3: "the parent", 4: "by name", 8: "by path from the MF", 9: "by path" };
-const RECORD_MODES = { 2: "the next record", 3: "the record before" };
+const SELECTIONS = { 0: "by identifier", 3: "the parent", 4: "by DF name (AID)", 8: "by path from the MF", 9: "by path" };
+const RECORD_MODES = { 2: "the next record", 3: "the previous record" };
 
 function line(depth, label, text = "") {
     return { depth, label, text };

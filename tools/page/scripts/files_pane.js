@@ -100,7 +100,7 @@ export class FilesPane {
     }
 
     pin(pin) {
-        const unblocked = pin.key === ADM1 ? "can't be unblocked" : `unblocked by ${pinValue(pin.unblock)}, ${pin.unblockTries} tries left`;
+        const unblocked = pin.key === ADM1 ? "can't be unblocked" : `UNBLOCK PIN ${pinValue(pin.unblock)}, ${pin.unblockTries} tries left`;
         return element("li", { class: this.classOf(`pin ${pin.key}`) }, element("span", { class: "name" }, keyName(pin.key)), " ",
             element("span", { class: "facts" }, `${pin.enabled ? "enabled" : "disabled"}, ${pinValue(pin.value)}, ${pin.tries} tries left; ${unblocked}`));
     }
