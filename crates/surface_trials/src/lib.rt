@@ -1,10 +1,14 @@
-//! Trials of what neither a script nor a table can show, and the public calls of the card, the handset and what is below them that no unit
-//! of the tables makes, with the types that their callers write: over devices, stores, streams, applets and an end of a link of one's own
-//! too. There is no code beside that of tests.
+//! Trials of what neither a script nor a table can show, and each public call of the card, the handset and what is below them, made once
+//! with the types that its callers write: devices, stores, streams, applets and ends of a link of one's own too. There is no code beside
+//! the tests.
 #![tactic(auto)]
 
 #[cfg(test)]
+mod applets;
+#[cfg(test)]
 mod cards;
+#[cfg(test)]
+mod commands;
 #[cfg(test)]
 mod files;
 #[cfg(test)]

@@ -116,7 +116,8 @@ fn one_apdu_is_passed_for_a_command(rt: HostRuntime) {
     let mut end = NotingEnd::new(b"");
     assert!(rt; say(&mut phone, &HandsetLine::NetPoll));
     let polls = serve(&mut phone, &mut link, &mut end, &mut answer);
-    assert_eq!(rt; (polls, end.count), (1, 1));
+    assert_eq!(rt; polls, 1);
+    assert_eq!(rt; end.count, 1);
     assert!(rt; end.passed.as_slice() == b"\x80\xF2\x00\x0C\x00".as_slice());
 
     let mut end = NotingEnd::new(b"\x00\x00");
@@ -127,7 +128,8 @@ fn one_apdu_is_passed_for_a_command(rt: HostRuntime) {
         )
     );
     let envelopes = serve(&mut phone, &mut link, &mut end, &mut answer);
-    assert_eq!(rt; (envelopes, end.count), (1, 1));
+    assert_eq!(rt; envelopes, 1);
+    assert_eq!(rt; end.count, 1);
     assert!(rt; end.passed.as_slice().starts_with(b"\x80\xC2\x00\x00"));
     assert!(rt; answer.body.as_slice() == b"\x00\x00".as_slice());
 }
