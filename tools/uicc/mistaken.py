@@ -51,10 +51,10 @@ def kind_of(content):
     return PROFILE if is_profile(content) else None
 
 
-def expect(content, path, *wanted):
-    """Mistaken, where a file's bytes are of a kind that isn't wanted, or of none and no text at all."""
+def expect(content, path, *wanted, is_text=True):
+    """Mistaken, where a file's bytes are of a kind that isn't wanted, or of none and no text at all, if it has to be one."""
     kind = kind_of(content)
-    if kind is None and IMAGE not in wanted and b"\0" in content and not content.startswith(OF_UTF_16):
+    if is_text and kind is None and IMAGE not in wanted and b"\0" in content and not content.startswith(OF_UTF_16):
         raise Mistaken(f"{path} is no text: a byte 00 stands in line {content[:content.index(0)].count(10) + 1}")
     if kind and kind not in wanted:
         what, by = ABOUT[kind]
