@@ -80,7 +80,7 @@ returns-clause-memory g c = λ given mark play. record {
 
 pub returns-clause-ends : goal.returns-clause-ends
 returns-clause-ends g c = record {
-  source_cause = record { kept = c.read_section.ensures.cause.kept; rose = λ three. absurd (omega (arith, three)) };
+  source_cause = record { failed = λ three. absurd (omega (arith, three)); no_failure = λ other. c.read_section.ensures.cause.no_failure (λ is. cc is) };
   sink_cause = record { kept = omega arith; rose = λ four. absurd (omega (arith, four)) };
   memory_cause = λ six. c.in-Err-make.ensures.failed;
   reset_cause = λ is. absurd (cc is);
