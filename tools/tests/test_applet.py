@@ -247,10 +247,10 @@ class Words(Copy):
         self.assertTrue(all(os.path.exists(os.path.join(self.folder, line.split(": ")[1])) for line in shown if line.startswith(("new: ", "changed: "))))
         self.assertEqual(self.told("write")[1], ["kinds.json: as it is"])
         status, shown, _ = self.told("rows")
-        self.assertEqual((status, shown), (0, ["328 rows, 0 differ"]))
+        self.assertEqual((status, shown), (0, ["356 rows, 0 differ"]))
         self.change("parrot mind _ = done mind", "parrot mind _ = turn mind TakeTimer 1", "applet_trait", "specs", "Tables.antt")
         status, shown, _ = self.told("rows")
-        self.assertEqual((status, shown[-1]), (1, "328 rows, 5 differ"))
+        self.assertEqual((status, shown[-1]), (1, "356 rows, 5 differ"))
         self.assertRegex(shown[1], r"^    by the definitions take timer \(of the applet parrot, line \d+\)$")
         status, _, said = self.told("new", "parrot")
         self.assertEqual((status, said), (2, "applet: `parrot` is a name of the sources already\n"))
@@ -285,9 +285,9 @@ class Words(Copy):
                 self.assertEqual([line for line in shown if line.startswith("crates/applet_trait")], [line.format(at=at, next=at + 1) for line in wanted])
                 unknown = [line for line in shown if "not known: " in line]
                 self.assertEqual(len(unknown), 1)
-                self.assertEqual(shown[-1], "328 rows, 3 differ, 2 not tried")
+                self.assertEqual(shown[-1], "356 rows, 3 differ, 2 not tried")
             self.change(new, old, *place)
-        self.assertEqual(self.told("rows")[:2], (0, ["328 rows, 0 differ"]))
+        self.assertEqual(self.told("rows")[:2], (0, ["356 rows, 0 differ"]))
 
     def test_a_stimulus_that_lacks_a_part(self):
         self.told("new", "parrot")
@@ -353,16 +353,16 @@ class Words(Copy):
                 (("src/parrots.rt", "fresh 8", "fresh 6"), "src/parrots.rt:25: parrot is kind 8, and not 6")):
             self.change(old, new, "boxed_applets", place)
             with self.subTest(new=new):
-                self.assertEqual(self.told("rows")[:2], (1, [folder + wanted, "328 rows, 0 differ"]))
+                self.assertEqual(self.told("rows")[:2], (1, [folder + wanted, "356 rows, 0 differ"]))
             self.change(new, old, "boxed_applets", place)
         self.change("    Ready,\n", "    Ready,\n    /// It asked.\n    Asking,\n", "boxed_applets", "src", "parrots.rt")
         self.change("phase_of Ready = 0\n", "phase_of Ready = 0\nphase_of Asking = 2\n", "boxed_applets", "specs", "Parrots.antt")
         self.change("TheVariants.{Ready}", "TheVariants.{Ready, Asking}", "boxed_applets", "specs", "Parrots.antt")
         said = folder + "specs/Parrots.antt:10: phase_of gives Asking the number 2, to which no turn of parrot leads"
-        self.assertEqual(self.told("rows")[:2], (1, [said, "328 rows, 0 differ"]))
+        self.assertEqual(self.told("rows")[:2], (1, [said, "356 rows, 0 differ"]))
         self.change("parrot mind _ = done mind", "parrot mind (Event 0x41 body) = turn mind (show GREETING.now) 2\nparrot mind _ = done mind",
                     "applet_trait", "specs", "Tables.antt")
-        self.assertEqual(self.told("rows")[:2], (0, ["328 rows, 0 differ"]))
+        self.assertEqual(self.told("rows")[:2], (0, ["356 rows, 0 differ"]))
 
     # a row of the new kind in the place of a good one, and what is said of it
     NO_ROWS = [
@@ -399,17 +399,17 @@ class Words(Copy):
                 line = at + (new.split()[0] == "on") * 2
                 self.assertEqual(shown[2:-1], [f"{path}:{line + 1}: " + ("on event 40 - => done" if lost == 3 else "on response 00 0 - => done"),
                                                f"    not tried, after line {line}" + ("; the same in 2 more rows" if lost == 3 else "")] if lost else [])
-                self.assertEqual(shown[-1], "328 rows, 1 differ" + (f", {lost} not tried" if lost else ""))
+                self.assertEqual(shown[-1], "356 rows, 1 differ" + (f", {lost} not tried" if lost else ""))
 
     def test_the_list_is_behind(self):
         """That the list of kinds has other definitions than the sources is told until it is written."""
         self.told("new", "parrot")
         self.change("parrot mind _ = done mind", "parrot mind Refused = done mind\nparrot mind _ = done mind", "applet_trait", "specs", "Tables.antt")
         status, shown, _ = self.told("rows", out_of_date=True)
-        self.assertEqual((status, shown[0]), (0, "328 rows, 0 differ"))
+        self.assertEqual((status, shown[0]), (0, "356 rows, 0 differ"))
         self.assertRegex(shown[1], r"^kinds\.json has other definitions, for the page and an installation: .* write$")
         self.told("write")
-        self.assertEqual(self.told("rows", out_of_date=True)[1], ["328 rows, 0 differ"])
+        self.assertEqual(self.told("rows", out_of_date=True)[1], ["356 rows, 0 differ"])
 
     def test_what_there_is_to_use(self):
         """The page names each function by which the code makes an act, as it stands in acts.rt, and each name of an act's definition."""
@@ -425,7 +425,7 @@ class Words(Copy):
         self.told("new", "parrot")
         self.change("    Ready,\n", "    Ready,\n    /// It asked.\n    Asking,\n", "boxed_applets", "src", "parrots.rt")
         place = "crates/boxed_applets/specs/Parrots.antt:10: "
-        shown = [place + "phase_of has no number for Asking, a phase of boxed_applets/src/parrots.rt", "328 rows, 0 differ"]
+        shown = [place + "phase_of has no number for Asking, a phase of boxed_applets/src/parrots.rt", "356 rows, 0 differ"]
         self.assertEqual(self.told("rows")[:2], (1, shown))
         self.change("phase_of Ready = 0\n", "phase_of Ready = 0\nphase_of Asking = 1\n", "boxed_applets", "specs", "Parrots.antt")
         unreached = place + "phase_of gives Asking the number 1, to which no turn of parrot leads"
@@ -449,7 +449,7 @@ class Words(Copy):
             path = os.path.join(self.crates, "boxed_applets", gone)
             os.rename(path, os.path.join(self.folder, "gone"))
             with self.subTest(gone=gone):
-                self.assertEqual(self.told("rows")[:2], (1, [said, "328 rows, 0 differ"]))
+                self.assertEqual(self.told("rows")[:2], (1, [said, "356 rows, 0 differ"]))
             os.rename(os.path.join(self.folder, "gone"), path)
 
     def test_texts_in_digits(self):

@@ -186,13 +186,13 @@ class Reader(unittest.TestCase):
             self.assertIn(part, told)
 
     # words that are refused, and why
-    REFUSED = [
+    REFUSED_WORDS = [
         (["--port", "99999"], "a port is 1 to 65535, and not 99999"), (["--port", "x"], "a port is 1 to 65535, and not x"),
         (["--cut", "0"], "[N:]K are numbers from 1 on, and not 0"), (["--cut", "1:x"], "[N:]K are numbers from 1 on, and not 1:x"),
     ]
 
     def test_words_that_are_refused(self):
-        for words, why in self.REFUSED:
+        for words, why in self.REFUSED_WORDS:
             with self.subTest(words=words):
                 done = subprocess.run([sys.executable, "-B", os.path.join(TOOLS, "reader"), self.script, *words], capture_output=True, text=True,
                                       timeout=120, check=False)
