@@ -39,7 +39,7 @@ use Rattle.card_core.proofs.IsSetLemmas.{rows_beside_pins, files_beside_pins}
 use Rattle.card_core.proofs.KnownLemmas.{told_by, finished, stopped_by}
 use Rattle.card_core.proofs.StopsAtLemmas.{stops_between, stands_there}
 
-carried_on_pins : (command : PinCommand) (card : CardState) (apdu : Apdu) → carried_out (OnPins command) card apdu ≡ pin_tried card (pin_outcome command card.persistent.pins card.verified apdu)
+carried_on_pins : (command : PinCommand) (card : CardState) (apdu : Apdu) → carried_out (OnPins command) card apdu ≡ pin_tried card command apdu.p2 (pin_outcome command card.persistent.pins card.verified apdu)
 unfolding carried_out
 carried_on_pins command card apdu = refl
 
@@ -74,7 +74,7 @@ pub record HasMarks (old new : CardParts) : Type 0 where
 
 module _ (command : PinCommand) (apdu : Apdu) (old new : CardParts) (out : Answer) where
   pin_answers : (by : KnownBy) (state : Persistent) (tried : Result PinOutcome StatusWord) → HasMarks old new → IsPinAnswer by new state (settled_pin old.verified tried) out
-      → SaysSo (settled (card_with false old state) (pin_tried (card_with false old state) tried)) out × MayBeBy by new (settled (card_with false old state) (pin_tried (card_with false old state) tried)).state
+      → SaysSo (settled (card_with false old state) (pin_tried (card_with false old state) command apdu.p2 tried)) out × MayBeBy by new (settled (card_with false old state) (pin_tried (card_with false old state) command apdu.p2 tried)).state
   unfolding and_given
   pin_answers by state (Ok outcome) has is = (
     record { body = is.body; status = is.status },
@@ -85,7 +85,7 @@ module _ (command : PinCommand) (apdu : Apdu) (old new : CardParts) (out : Answe
     record { known = is.known; channels = sym has.channels; verified = sym is.verified; session = sym has.session; boxes = sym has.boxes },
   )
 
-  pin_commits : (card : CardState) (tried : Result PinOutcome StatusWord) → with_each card.persistent (settled_pin card.verified tried).passed ≡ (settled card (pin_tried card tried)).commits
+  pin_commits : (card : CardState) (tried : Result PinOutcome StatusWord) → with_each card.persistent (settled_pin card.verified tried).passed ≡ (settled card (pin_tried card command apdu.p2 tried)).commits
   unfolding and_given
   pin_commits card (Ok outcome) = refl
   pin_commits card (Err status) = refl
@@ -93,7 +93,7 @@ module _ (command : PinCommand) (apdu : Apdu) (old new : CardParts) (out : Answe
   abbrev came_on : Persistent → Answered
   came_on state = settled (card_with false old state) (carried_out (OnPins command) (card_with false old state) apdu)
 
-  tried_is : (state : Persistent) → settled (card_with false old state) (pin_tried (card_with false old state) (pin_outcome command state.pins old.verified apdu)) ≡ came_on state
+  tried_is : (state : Persistent) → settled (card_with false old state) (pin_tried (card_with false old state) command apdu.p2 (pin_outcome command state.pins old.verified apdu)) ≡ came_on state
   tried_is state = ap (settled (card_with false old state)) (sym (carried_on_pins command (card_with false old state) apdu))
 
   abbrev outcome_by : List Pin → PinOutcome

@@ -1,6 +1,7 @@
 -- Applets change by the turns that are noted alone.
 use Rattle.std.proofs.Common.{◌≡◌, ℕ, zero, suc, ◌+◌, Bool, true, false, List, [], ◌∷◌, ◌++◌, length, Option, Some, None, refl, sym, subst, arith, ◌==◌, if◌then◌else◌, is_some, option_to_list, eq-eqb, ne_eqb, set-set}
 use Rattle.uicc_types.specs.declared.events.TheConstants.{PROFILE_DOWNLOAD, STATUS_COMMAND}
+use Rattle.card_state.specs.Changes.{Change}
 use Rattle.card_state.specs.Persistent.{Registration}
 use Rattle.toolkit_commands.specs.declared.commands.Proactive.{Proactive}
 use Rattle.toolkit_commands.specs.declared.envelopes.Envelope.{Envelope}
@@ -14,6 +15,7 @@ use Rattle.toolkit_model.specs.Sessions.{Outstanding, Sent, LateTrigger, Session
 use Rattle.toolkit_model.specs.Order.{targets}
 use Rattle.toolkit_model.specs.Orderly.{asks}
 use Rattle.toolkit_model.specs.Passing.{ToolkitState, ShelfTurn, Happening, Woke, Fetched, Responded, Given, Turned, Committed, Passed, before, in_turn}
+use Rattle.toolkit_model.specs.Changes.{change_by}
 use Rattle.toolkit_model.specs.Running.{Setting, Works, Ran, admitted, carried, going_on, run_on, most_acts, mind_on, with_mind, sending, setting_of, works_of, run_of_mind, run_of_row}
 use Rattle.toolkit_model.specs.Driving.{is_idle, with_session, running, told_if, given_if, trigger_for, told_one, given_one, first_idle, catching, caught_up, wanted, front_out, next_out, filled, with_next_command, driven}
 use Rattle.toolkit_model.specs.Commands.{registered_told, with_profile, profiled, polled, Trigger, triggered_by, is_reported_once, forgetting, reported, triggered, enveloped, fetched, resumed, with_nothing_out, answered, responded, registering, installed, unregistering, delete_carried}
@@ -38,11 +40,11 @@ act_joined from middle now (Woke ∷ first) second one other = act_joined from m
 act_joined from middle now (Fetched out ∷ first) second one other = act_joined from middle now first second one other
 act_joined from middle now (Responded out reply ∷ first) second one other = act_joined from middle now first second one other
 act_joined from middle now (Given trigger ∷ first) second one other = act_joined from middle now first second one other
-act_joined from middle now (Committed rows ∷ first) second one other = (one.0, act_joined from middle now first second one.1 other)
+act_joined from middle now (Committed change rows ∷ first) second one other = (one.0, act_joined from middle now first second one.1 other)
 
-after_commit : (b : Bool) (from now : Point) (log : List Happening) → ActInTurn from log now → ActInTurn from ((if b then Committed from.rows ∷ [] else []) ++ log) now
-after_commit true from now log acts = (refl, acts)
-after_commit false from now log acts = acts
+after_commit : (change : Change) (b : Bool) (from now : Point) (log : List Happening) → ActInTurn from log now → ActInTurn from ((if b then Committed change from.rows ∷ [] else []) ++ log) now
+after_commit change true from now log acts = (refl, acts)
+after_commit change false from now log acts = acts
 
 -- ---- a run of an applet
 
@@ -72,12 +74,12 @@ abbrev GoesOn : Point → OpenRun → Setting → Minds → (Stimulus → Works 
 GoesOn from run at minds next is_last done = (told : Stimulus) → ActInTurn (after_act from run done (Some told) is_last) (next told done).log (ended at minds (next told done))
 
 -- what comes after an act
-later_acts : (acts : ℕ) (at : Setting) (stimulus : Stimulus) (works done : Works) (minds : Minds) (before : Option OpenRun) (next : Stimulus → Works → Ran) (sent : Option Proactive) (b is_last : Bool) (tells : Option Stimulus)
+later_acts : (change : Change) (acts : ℕ) (at : Setting) (stimulus : Stimulus) (works done : Works) (minds : Minds) (before : Option OpenRun) (next : Stimulus → Works → Ran) (sent : Option Proactive) (b is_last : Bool) (tells : Option Stimulus)
     → GoesOn (point_in at minds works before) (run_at at acts stimulus) at minds next is_last done
-    → ActInTurn (after_act (point_in at minds works before) (run_at at acts stimulus) done tells is_last) ((if b then Committed done.rows ∷ [] else []) ++ (going_on done sent next tells).log) (ended at minds (going_on done sent next tells))
-later_acts acts at stimulus works done minds before next sent b is_last None more = after_commit b (ended at minds (record { works = done; sent = sent; log = [] })) _ [] refl
-later_acts acts at stimulus works done minds before next sent b true (Some told) more = after_commit b _ _ _ (more told)
-later_acts acts at stimulus works done minds before next sent b false (Some told) more = after_commit b _ _ _ (more told)
+    → ActInTurn (after_act (point_in at minds works before) (run_at at acts stimulus) done tells is_last) ((if b then Committed change done.rows ∷ [] else []) ++ (going_on done sent next tells).log) (ended at minds (going_on done sent next tells))
+later_acts change acts at stimulus works done minds before next sent b is_last None more = after_commit change b (ended at minds (record { works = done; sent = sent; log = [] })) _ [] refl
+later_acts change acts at stimulus works done minds before next sent b true (Some told) more = after_commit change b _ _ _ (more told)
+later_acts change acts at stimulus works done minds before next sent b false (Some told) more = after_commit change b _ _ _ (more told)
 
 -- a run of one act more
 abbrev RunsWell : ℕ → ℕ → Setting → Stimulus → Works → Minds → Option OpenRun → Type 0
@@ -94,7 +96,7 @@ first_acts acts left at stimulus works minds before more there whose =
     let done = carried at made.does turned in (
       after_act (point_in at minds works before) (run_at at acts stimulus) done.works done.tells (acts == most_acts),
       record { run = run_at at acts stimulus; mind = works.mind; goes_on = whose; there = there; does = refl; admits = refl; done = done; carries = refl; leaves = refl },
-      later_acts acts at stimulus works done.works minds before (run_on left at) (admitted at turned.timers made.does) done.is_committed (acts == most_acts) done.tells (more done.works),
+      later_acts (change_by at.shelf made.does done.works.rows) acts at stimulus works done.works minds before (run_on left at) (admitted at turned.timers made.does) done.is_committed (acts == most_acts) done.tells (more done.works),
     )
 
 -- after the last act the applet begins anew

@@ -407,7 +407,7 @@ module _ (files : FilesAreLawful) (trees : TreesAreLawful) (card : CardState) (g
     carried_in_order : (instruction : Instruction) → InOrder card_word (refusals_of instruction card apdu) (carried_out instruction card apdu)
     unfolding carried_out
     carried_in_order (File command) = mapped file_word card_word (on_files card (channel_of apdu.class)) _ _ (λ outcome. refl) (on_file command)
-    carried_in_order (OnPin command) = mapped pin_word card_word (on_pins card) _ _ (λ outcome. refl) (pin_in_order card.persistent.pins good.sound.sound.pins card.verified apdu command)
+    carried_in_order (OnPin command) = mapped pin_word card_word (on_pins card command apdu.p2) _ _ (λ outcome. refl) (pin_in_order card.persistent.pins good.sound.sound.pins card.verified apdu command)
     carried_in_order ManageChannel = mapped channel_word card_word (on_channels card) _ _ (λ outcome. refl) (channel_in_order card.channels selection apdu)
     carried_in_order (Toolkit command) = mapped toolkit_word card_word (on_toolkit card) _ _ (λ outcome. refl) (toolkit_in_order card good (seen_by card) apdu command)
     carried_in_order (Tree command) = mapped tree_word card_word (on_trees card) _ _ (λ outcome. refl) (on_tree command)
@@ -487,7 +487,7 @@ module _ (files : FilesAreLawful) (card : CardState) (good : IsGood card) (bytes
   carried_bare apdu is (File command) =
       bare_made file_word (on_files card (channel_of apdu.class)) _ (λ outcome. refl) (lawful_file card _ (
       files command bytes apdu card.persistent (seen_by card) (selection_on card (channel_of apdu.class)) is good.sound (selected_is card good (channel_of apdu.class) (channel_low apdu.class))))
-  carried_bare apdu is (OnPin command) = bare_so (on_pins card) _ (λ outcome refuses. refl)
+  carried_bare apdu is (OnPin command) = bare_so (on_pins card command apdu.p2) _ (λ outcome refuses. refl)
   carried_bare apdu is ManageChannel = bare_so (on_channels card) _ (λ outcome refuses. absurd (false≢true (sym refuses)))
   carried_bare apdu is (Toolkit command) = bare_so (on_toolkit card) _ (λ outcome refuses. absurd (false≢true (sym refuses)))
   carried_bare apdu is (Tree command) = bare_so (on_trees card) _ (λ outcome refuses. refl)

@@ -5,6 +5,7 @@ use Rattle.std.proofs.lemmas.List.Elements.{All-nil, All-cons, All-map, All-cont
 use Rattle.uicc_types.specs.declared.answers.StatusWord.{StatusWord}
 use Rattle.uicc_types.specs.declared.answers.TheConstants.StatusWord.{DONE}
 use Rattle.apdu_form.specs.Model.{Apdu, cut_to}
+use Rattle.card_state.specs.Changes.{Change}
 use Rattle.card_state.specs.Persistent.{Persistent, Registration}
 use Rattle.file_model.specs.Chains.{and_given}
 use Rattle.file_model.specs.Outcomes.{FileOutcome, PinOutcome, last_of}
@@ -15,6 +16,7 @@ use Rattle.file_model.specs.TreeOutcomes.{TreeOutcome}
 use Rattle.apdu_form.specs.Classes.{channel_of}
 use Rattle.file_model.specs.Channels.{ChannelOutcome}
 use Rattle.file_model.specs.declared.commands.FileCommand.TheVariants as file
+use Rattle.file_model.specs.declared.commands.PinCommand.{PinCommand}
 use Rattle.applet_trait.specs.Minds.{AppletState}
 use Rattle.toolkit_model.specs.Passing.{ToolkitState, Passed, passed_rows}
 use Rattle.toolkit_model.specs.Running.{mind_on}
@@ -124,9 +126,9 @@ files_wake card [] stands other = All-nil (CanWake card)
 files_wake card (next ∷ passed) stands other = All-cons (CanWake card) next passed (subst (CanWake card) (sym other.0) stands) (files_wake card passed stands other.1)
 
 module _ (card : CardState) (ready : HasOrder card) where
-  passed_go : (body : List ℕ) (status : StatusWord) (channels : List (Option Selection)) (passed : List Persistent) → HaveOtherFiles card.persistent passed
-      → Goes None card (record { body = body; status = status; state = record card { persistent = last_of card.persistent passed; channels = channels }; commits = passed })
-  passed_go body status channels passed other =
+  passed_go : (body : List ℕ) (status : StatusWord) (channels : List (Option Selection)) (passed : List Persistent) (changes : List Change) → HaveOtherFiles card.persistent passed
+      → Goes None card (record { body = body; status = status; state = record card { persistent = last_of card.persistent passed; channels = channels }; commits = passed; changes = changes })
+  passed_go body status channels passed changes other =
       let last : Persistent = last_of card.persistent passed in
       let is : last ≡ record card.persistent { files = last.files } = files_last card.persistent card.persistent passed refl other in
       record {
@@ -141,15 +143,15 @@ module _ (card : CardState) (ready : HasOrder card) where
       }
 
   files_go : (channel : ℕ) (outcome : FileOutcome) → HaveOtherFiles card.persistent outcome.passed → Goes None card (on_files card channel outcome)
-  files_go channel outcome other = passed_go outcome.body outcome.status (slice_set card.channels channel (Some outcome.selection)) outcome.passed other
+  files_go channel outcome other = passed_go outcome.body outcome.status (slice_set card.channels channel (Some outcome.selection)) outcome.passed outcome.changes other
 
   -- and one that makes, deletes or resizes files
   trees_go : (outcome : TreeOutcome) → HaveOtherFiles card.persistent outcome.passed → Goes None card (on_trees card outcome)
-  trees_go outcome other = passed_go [] DONE outcome.channels outcome.passed other
+  trees_go outcome other = passed_go [] DONE outcome.channels outcome.passed outcome.changes other
 
 -- a command on PINs, and one on channels
-pins_go : (card : CardState) → HasOrder card → (outcome : PinOutcome) → Goes None card (on_pins card outcome)
-pins_go card ready outcome = record {
+pins_go : (command : PinCommand) (key : ℕ) (card : CardState) → HasOrder card → (outcome : PinOutcome) → Goes None card (on_pins card command key outcome)
+pins_go command key card ready outcome = record {
   goes = record { toolkit = refl; commits = All-map (λ (state : Persistent). state.rows ≡ card.persistent.rows) (with_pins card.persistent) outcome.passed (λ k d low. refl) };
   below = ready.sequences;
   states = All-map (CanWake card) (with_pins card.persistent) outcome.passed (λ k d low. wakes_now card ready);
@@ -185,10 +187,10 @@ module _ (installs : InstallationsAreAccepted) (sounds : InstalledRowsAreSound) 
   of_file (Err status) leaves = tt
   of_file (Ok outcome) leaves = files_go card ready (channel_of apdu.class) outcome leaves
 
-  of_pin : (outcome : Result PinOutcome StatusWord) → Q None (pin_tried card outcome)
+  of_pin : (command : PinCommand) (key : ℕ) (outcome : Result PinOutcome StatusWord) → Q None (pin_tried card command key outcome)
   unfolding and_given
-  of_pin (Err status) = tt
-  of_pin (Ok outcome) = pins_go card ready outcome
+  of_pin command key (Err status) = tt
+  of_pin command key (Ok outcome) = pins_go command key card ready outcome
 
   of_channel : (outcome : Result ChannelOutcome StatusWord) → Q None (managed card outcome)
   unfolding and_given
@@ -235,7 +237,7 @@ module _ (installs : InstallationsAreAccepted) (sounds : InstalledRowsAreSound) 
   carried_goes (File file.Status) = of_status (status_told card.persistent selection apdu) (status_done card.persistent selection apdu)
   carried_goes (File file.Select) = no_event None _ (of_file _ (file_leaves card.persistent (seen_by card) selection apdu file.Select))
   carried_goes (File (file.Contents command)) = no_event None _ (of_file _ (file_leaves card.persistent (seen_by card) selection apdu (file.Contents command)))
-  carried_goes (Pin command) = no_event None _ (of_pin _)
+  carried_goes (Pin command) = no_event None _ (of_pin command apdu.p2 _)
   carried_goes ManageChannel = no_event None _ (of_channel _)
   carried_goes (Toolkit command) = no_event _ _ (of_toolkit _ _ (outcome_comes installs sounds card ready apdu command (seen_by card)))
   carried_goes (Tree command) = no_event None _ (of_tree _ (tree_leaves card.persistent (seen_by card) card.channels (channel_of apdu.class) apdu command))

@@ -43,7 +43,7 @@ use Rattle.card_laws.proofs.PassedRowsLemmas.{polled_commits}
 
 -- ---- the toolkit of a good card
 
-good_toolkit : (card : CardState) → IsGood card → IsGoodToolkit card.persistent.is_wide card.persistent.next_sequence (toolkit_of card)
+pub good_toolkit : (card : CardState) → IsGood card → IsGoodToolkit card.persistent.is_wide card.persistent.next_sequence (toolkit_of card)
 good_toolkit card good = record {
   sound = record {
     rows_are = record { each = good.sound.sound.rows; different = good.sound.sound.distinct_rows; texts = good.sound.sound.texts };

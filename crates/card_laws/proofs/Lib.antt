@@ -1,10 +1,12 @@
 mod ActInTurnLemmas
 mod AfterActLemmas
 mod AllTriesLemmas
+mod AnswersPassChangesLemmas
 mod AreEventsWantedLemmas
 mod AreOfKnownKindsLemmas
 mod BoxesLeftLemmas
 mod CardRefusalsLemmas
+mod EventCodesLemmas
 mod EventsInLemmas
 mod FaultsAreSeenLemmas
 mod FcpAreObjectsLemmas
@@ -21,6 +23,7 @@ mod IsLawfulWithAppletsLemmas
 mod IsStatusLemmas
 mod KeepsThroughoutLemmas
 pub mod LeavesUnansweredLemmas
+mod MakesLemmas
 mod MarkedLemmas
 mod NotedLemmas
 mod NumberAfterLemmas

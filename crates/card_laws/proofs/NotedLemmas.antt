@@ -3,6 +3,7 @@ use Rattle.std.proofs.Common.{◌≡◌, ℕ, zero, suc, Bool, true, false, List
 use Rattle.std.specs.List.{list_any}
 use Rattle.std.proofs.lemmas.List.Elements.{filter-append}
 use Rattle.uicc_types.specs.declared.events.TheConstants.{PROFILE_DOWNLOAD, STATUS_COMMAND}
+use Rattle.card_state.specs.Changes.{Change}
 use Rattle.card_state.specs.Persistent.{Registration}
 use Rattle.toolkit_commands.specs.declared.commands.Proactive.{Proactive}
 use Rattle.toolkit_commands.specs.declared.envelopes.Envelope.{Envelope}
@@ -15,6 +16,7 @@ use Rattle.toolkit_model.specs.Sessions.{Outstanding, LateTrigger}
 use Rattle.toolkit_model.specs.Order.{targets}
 use Rattle.toolkit_model.specs.Orderly.{asks}
 use Rattle.toolkit_model.specs.Passing.{ToolkitState, Happening, Woke, Fetched, Responded, Given, Turned, Committed, Passed, before, in_turn}
+use Rattle.toolkit_model.specs.Changes.{change_by}
 use Rattle.toolkit_model.specs.Running.{Setting, Works, Ran, admitted, carried, committed, going_on, run_on, most_acts, mind_on, setting_of, works_of, run_of_mind, run_of_row}
 use Rattle.toolkit_model.specs.Driving.{is_idle, with_session, running, told_if, given_if, trigger_for, told_one, given_one, first_idle, catching, caught_up, driven}
 use Rattle.toolkit_model.specs.Commands.{registered_told, with_profile, profiled, polled, Trigger, triggered_by, reported, triggered, enveloped, fetched, resumed, with_nothing_out, answered, responded, registering, installed, unregistering, delete_carried}
@@ -39,9 +41,9 @@ after_quiet first second quiet = besides_joined first second ∙ ap (λ front. f
 
 -- ---- a run of an applet
 
-commit_quiet : (b : Bool) (rows : List Registration) → IsQuiet (if b then Committed rows ∷ [] else [])
-commit_quiet true rows = refl
-commit_quiet false rows = refl
+commit_quiet : (b : Bool) (change : Change) (rows : List Registration) → IsQuiet (if b then Committed change rows ∷ [] else [])
+commit_quiet true change rows = refl
+commit_quiet false change rows = refl
 
 going_quiet : (works : Works) (sent : Option Proactive) (next : Stimulus → Works → Ran) (tells : Option Stimulus) → ((stimulus : Stimulus) → IsQuiet (next stimulus works).log) → IsQuiet (going_on works sent next tells).log
 going_quiet works sent next None more = refl
@@ -55,7 +57,7 @@ run_quiet (suc fuel) at stimulus works =
     let turned : Works = record works { mind = made.next } in
     let done = carried at made.does turned in
     let later : Ran = going_on done.works (admitted at turned.timers made.does) (run_on fuel at) done.tells in
-    after_quiet (committed done) later.log (commit_quiet done.is_committed done.works.rows)
+    after_quiet (committed at made.does done) later.log (commit_quiet done.is_committed (change_by at.shelf made.does done.works.rows) done.works.rows)
     ∙ going_quiet done.works (admitted at turned.timers made.does) (run_on fuel at) done.tells (λ next. run_quiet fuel at next done.works)
 
 mind_quiet : (shelf : ℕ) (stimulus : Stimulus) (is_resumed : Bool) (state : ToolkitState) (mind : Option AppletState) → IsQuiet (run_of_mind shelf stimulus is_resumed state mind).log
@@ -185,7 +187,7 @@ given_besides (Fetched out ∷ log) = given_besides log
 given_besides (Responded out reply ∷ log) = given_besides log
 given_besides (Given trigger ∷ log) = ap (λ (rest : List LateTrigger). trigger ∷ rest) (given_besides log)
 given_besides (Turned turn ∷ log) = given_besides log
-given_besides (Committed rows ∷ log) = given_besides log
+given_besides (Committed change rows ∷ log) = given_besides log
 
 all_gifts : (triggers : List LateTrigger) → all_given (map (λ trigger. Given trigger) triggers) ≡ triggers
 all_gifts [] = refl
@@ -216,7 +218,7 @@ wakes_besides (Fetched out ∷ log) = wakes_besides log
 wakes_besides (Responded out reply ∷ log) = wakes_besides log
 wakes_besides (Given trigger ∷ log) = wakes_besides log
 wakes_besides (Turned turn ∷ log) = wakes_besides log
-wakes_besides (Committed rows ∷ log) = wakes_besides log
+wakes_besides (Committed change rows ∷ log) = wakes_besides log
 
 gifts_wake_none : (triggers : List LateTrigger) → list_any is_wake (map (λ trigger. Given trigger) triggers) ≡ false
 gifts_wake_none [] = refl

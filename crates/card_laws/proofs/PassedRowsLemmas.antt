@@ -2,6 +2,7 @@
 -- what applets may change.
 use Rattle.std.proofs.Common.{◌≡◌, ℕ, zero, suc, Bool, true, false, cond, List, [], ◌∷◌, ◌++◌, map, length, Option, Some, None, Result, Ok, Err, refl, sym, ◌∙◌, ap, subst, All, nat_le, filter, not, ◌==◌}
 use Rattle.std.proofs.lemmas.List.Elements.{All-nil, All-cons, All-head, All-tail, filter_map-append}
+use Rattle.card_state.specs.Changes.{Change, AddRow, TakeRow}
 use Rattle.card_state.specs.Persistent.{Registration}
 use Rattle.card_state.specs.Sections.{sorted_codes, with_row}
 use Rattle.file_model.specs.Outcomes.{last_of}
@@ -22,11 +23,13 @@ use Rattle.toolkit_model.specs.Orderly.{asks}
 use Rattle.toolkit_model.specs.Order.{targets}
 use Rattle.toolkit_model.specs.Registry.{is_on, with_changed, with_code, without_code, with_kept, registers, deregisters, without_row}
 use Rattle.toolkit_model.specs.Passing.{ToolkitState, Happening, Woke, Fetched, Responded, Given, Turned, Committed, Passed, rows_in, passed_rows, unmoved, before, in_turn}
+use Rattle.toolkit_model.specs.Changes.{change_by, entry_of}
 use Rattle.toolkit_model.specs.Running.{Setting, Works, Carried, Ran, commits, changing, taking, carried, is_admitted, is_held_by, admitted, committed, going_on, run_on, most_acts, mind_on, works_of, setting_of, run_of_mind, run_of_row}
 use Rattle.toolkit_model.specs.Driving.{is_idle, told_if, given_if, told_one, given_one, trigger_for, first_idle, catching, caught_up, with_next_command, driven}
 use Rattle.toolkit_model.specs.Commands.{registered_told, with_profile, profiled, polled, triggered_by, is_reported_once, reported, triggered, enveloped, fetched, resumed, with_nothing_out, answered, responded, registering, installed, unregistering, delete_carried}
 use Rattle.card_model.proofs.IsCountedLemmas.{last_joined}
 use Rattle.card_laws.specs.Moving.{fixed, HaveFixed}
+use Rattle.card_laws.proofs.MakesLemmas.{Makes, AreRight, right_joined, keep_makes, codes_make}
 
 -- ---- commits, one after the other
 
@@ -34,9 +37,10 @@ use Rattle.card_laws.specs.Moving.{fixed, HaveFixed}
 pub record CommitsRows (rows : List Registration) (log : List Happening) (now : List Registration) : Type 0 where
   pub ends : last_of rows (passed_rows log) ≡ now
   pub each : All (HaveFixed rows) (passed_rows log)
+  pub right : AreRight rows log now
 
 still : (rows : List Registration) → CommitsRows rows [] rows
-still rows = record { ends = refl; each = All-nil (HaveFixed rows) }
+still rows = record { ends = refl; each = All-nil (HaveFixed rows); right = refl }
 
 last_fixed : (base rows : List Registration) (passed : List (List Registration)) → HaveFixed base rows → All (HaveFixed base) passed → HaveFixed base (last_of rows passed)
 last_fixed base rows [] here all = here
@@ -58,16 +62,17 @@ joined rows middle now first second a b =
     record {
       ends = ap (last_of rows) parts ∙ last_joined rows (passed_rows first) (passed_rows second) ∙ ap (λ (from : List Registration). last_of from (passed_rows second)) a.ends ∙ b.ends;
       each = subst (All (HaveFixed rows)) (sym parts) (all_joined rows middle (passed_rows first) (passed_rows second) (now_fixed rows middle first a) a.each b.each);
+      right = right_joined rows middle now first second a.right b.right;
     }
 
 -- what is noted besides a commit
 noted_too : (rows now : List Registration) (happening : Happening) (log : List Happening) → rows_in happening ≡ None → CommitsRows rows log now → CommitsRows rows (happening ∷ log) now
-noted_too rows now Woke log none commits = record { ends = commits.ends; each = commits.each }
-noted_too rows now (Fetched out) log none commits = record { ends = commits.ends; each = commits.each }
-noted_too rows now (Responded out reply) log none commits = record { ends = commits.ends; each = commits.each }
-noted_too rows now (Given trigger) log none commits = record { ends = commits.ends; each = commits.each }
-noted_too rows now (Turned turn) log none commits = record { ends = commits.ends; each = commits.each }
-noted_too rows now (Committed next) log none commits = absurd (cc)
+noted_too rows now Woke log none commits = record { ends = commits.ends; each = commits.each; right = commits.right }
+noted_too rows now (Fetched out) log none commits = record { ends = commits.ends; each = commits.each; right = commits.right }
+noted_too rows now (Responded out reply) log none commits = record { ends = commits.ends; each = commits.each; right = commits.right }
+noted_too rows now (Given trigger) log none commits = record { ends = commits.ends; each = commits.each; right = commits.right }
+noted_too rows now (Turned turn) log none commits = record { ends = commits.ends; each = commits.each; right = commits.right }
+noted_too rows now (Committed change next) log none commits = absurd (cc)
 
 -- ---- an act
 
@@ -81,37 +86,37 @@ changed_fixed (row ∷ rows) shelf change same =
     ap (λ (first : Registration). first ∷ map fixed (with_changed rows shelf change)) (changed_one (is_on shelf row) row change (same row)) ∙ ap (λ (rest : List Registration). fixed row ∷ rest) (changed_fixed rows shelf change same)
 
 -- what an act that was carried out commits
-abbrev Carries : Works → Carried → Type 0
-Carries works done = CommitsRows works.rows (committed done) done.works.rows
+abbrev Carries : Setting → Act → Works → Carried → Type 0
+Carries at does works done = CommitsRows works.rows (committed at does done) done.works.rows
 
-one_commit : (rows next : List Registration) → HaveFixed rows next → CommitsRows rows (Committed next ∷ []) next
-one_commit rows next same = record { ends = refl; each = All-cons (HaveFixed rows) next [] same (All-nil (HaveFixed rows)) }
+one_commit : {change : Change} (rows next : List Registration) → HaveFixed rows next → Makes rows change next → CommitsRows rows (Committed change next ∷ []) next
+one_commit rows next same makes = record { ends = refl; each = All-cons (HaveFixed rows) next [] same (All-nil (HaveFixed rows)); right = (makes, refl) }
 
-changing_carries : (works : Works) (rows : List Registration) (result : Result Bool RowFault) → HaveFixed works.rows rows → Carries works (changing works rows result)
-changing_carries works rows (Ok true) same = one_commit works.rows rows same
-changing_carries works rows (Ok false) same = still works.rows
-changing_carries works rows (Err fault) same = still works.rows
+changing_carries : (at : Setting) (does : Act) (works : Works) (rows : List Registration) (result : Result Bool RowFault) → HaveFixed works.rows rows → Makes works.rows (change_by at.shelf does rows) rows → Carries at does works (changing works rows result)
+changing_carries at does works rows (Ok true) same makes = one_commit works.rows rows same makes
+changing_carries at does works rows (Ok false) same makes = still works.rows
+changing_carries at does works rows (Err fault) same makes = still works.rows
 
-taking_carries : (shelf : ℕ) (works : Works) (found : Option ℕ) → Carries works (taking shelf works found)
-taking_carries shelf works (Some timer) = still works.rows
-taking_carries shelf works None = still works.rows
+taking_carries : (at : Setting) (does : Act) (shelf : ℕ) (works : Works) (found : Option ℕ) → Carries at does works (taking shelf works found)
+taking_carries at does shelf works (Some timer) = still works.rows
+taking_carries at does shelf works None = still works.rows
 
-either_carries : (b : Bool) (works : Works) (x y : Carried) → Carries works x → Carries works y → Carries works (cond b x y)
-either_carries true works x y first second = first
-either_carries false works x y first second = second
+either_carries : (at : Setting) (does : Act) (b : Bool) (works : Works) (x y : Carried) → Carries at does works x → Carries at does works y → Carries at does works (cond b x y)
+either_carries at does true works x y first second = first
+either_carries at does false works x y first second = second
 
-carried_carries : (at : Setting) (does : Act) (works : Works) → Carries works (carried at does works)
+carried_carries : (at : Setting) (does : Act) (works : Works) → Carries at does works (carried at does works)
 carried_carries at Done works = still works.rows
-carried_carries at (Send command) works = either_carries (is_admitted at works.timers command) works _ _ (still works.rows) (still works.rows)
+carried_carries at (Send command) works = either_carries at (Send command) (is_admitted at works.timers command) works _ _ (still works.rows) (still works.rows)
 carried_carries at (Keep bytes) works =
-    either_carries (nat_le (length bytes) MOST_KEPT) works _ _ (one_commit works.rows (with_kept works.rows at.shelf bytes) (changed_fixed works.rows at.shelf (λ row. record row { kept = bytes }) (λ row. refl))) (still works.rows)
+    either_carries at (Keep bytes) (nat_le (length bytes) MOST_KEPT) works _ _ (one_commit works.rows (with_kept works.rows at.shelf bytes) (changed_fixed works.rows at.shelf (λ row. record row { kept = bytes }) (λ row. refl)) (keep_makes works.rows at.shelf bytes)) (still works.rows)
 carried_carries at (Register code) works =
-    changing_carries works (with_code works.rows at.shelf code) (registers works.rows at.shelf code) (changed_fixed works.rows at.shelf (λ row. record row { codes = sorted_codes (code ∷ row.codes) }) (λ row. refl))
+    changing_carries at (Register code) works (with_code works.rows at.shelf code) (registers works.rows at.shelf code) (changed_fixed works.rows at.shelf (λ row. record row { codes = sorted_codes (code ∷ row.codes) }) (λ row. refl)) (codes_make works.rows at.shelf (λ codes. sorted_codes (code ∷ codes)))
 carried_carries at (Deregister code) works =
-    changing_carries works (without_code works.rows at.shelf code) (deregisters works.rows at.shelf code)
-    (changed_fixed works.rows at.shelf (λ row. record row { codes = filter (λ other. not (other == code)) row.codes }) (λ row. refl))
-carried_carries at TakeTimer works = taking_carries at.shelf works (smallest_free works.timers)
-carried_carries at (FreeTimer timer) works = either_carries (is_held_by works.timers at.shelf timer) works _ _ (still works.rows) (still works.rows)
+    changing_carries at (Deregister code) works (without_code works.rows at.shelf code) (deregisters works.rows at.shelf code)
+    (changed_fixed works.rows at.shelf (λ row. record row { codes = filter (λ other. not (other == code)) row.codes }) (λ row. refl)) (codes_make works.rows at.shelf (λ codes. filter (λ other. not (other == code)) codes))
+carried_carries at TakeTimer works = taking_carries at TakeTimer at.shelf works (smallest_free works.timers)
+carried_carries at (FreeTimer timer) works = either_carries at (FreeTimer timer) (is_held_by works.timers at.shelf timer) works _ _ (still works.rows) (still works.rows)
 carried_carries at (Answer allows) works = still works.rows
 
 -- ---- a run
@@ -129,8 +134,8 @@ run_commits (suc fuel) at stimulus works =
     let turned : Works = record works { mind = made.next } in
     let done : Carried = carried at made.does turned in
     let ran : Ran = going_on done.works (admitted at turned.timers made.does) (run_on fuel at) done.tells in
-    noted_too works.rows ran.works.rows _ (committed done ++ ran.log) refl
-    (joined works.rows done.works.rows ran.works.rows (committed done) ran.log (carried_carries at made.does turned)
+    noted_too works.rows ran.works.rows _ (committed at made.does done ++ ran.log) refl
+    (joined works.rows done.works.rows ran.works.rows (committed at made.does done) ran.log (carried_carries at made.does turned)
     (goes_on done (admitted at turned.timers made.does) (run_on fuel at) done.tells (λ next. run_commits fuel at next done.works)))
 
 -- ---- from state to state
@@ -242,15 +247,15 @@ unfolding responded
 responded_commits out reply state = before_commits state (answered out reply state) driven (answered_commits out reply state) driven_commits
 
 -- INSTALL and DELETE commit their own change first
-pub record CommitsFirst (changed : List Registration) (passed : Passed) : Type 0 where
+pub record CommitsFirst (change : Change) (changed : List Registration) (passed : Passed) : Type 0 where
   pub rest : List Happening
-  pub first : passed.log ≡ Committed changed ∷ rest
+  pub first : passed.log ≡ Committed change changed ∷ rest
   pub others : CommitsRows changed rest passed.state.rows
 
-pub installed_commits : (row : Registration) (state : ToolkitState) → CommitsFirst (with_row state.rows row) (installed row state)
+pub installed_commits : (row : Registration) (state : ToolkitState) → CommitsFirst (AddRow row.shelf (entry_of row)) (with_row state.rows row) (installed row state)
 unfolding installed
 installed_commits row state = record { rest = _; first = refl; others = driven_commits (registering row state).state }
 
-pub deleted_commits : (shelf : ℕ) (state : ToolkitState) → CommitsFirst (without_row state.rows shelf) (delete_carried shelf state)
+pub deleted_commits : (shelf : ℕ) (state : ToolkitState) → CommitsFirst (TakeRow shelf) (without_row state.rows shelf) (delete_carried shelf state)
 unfolding delete_carried
 deleted_commits shelf state = record { rest = _; first = refl; others = driven_commits (unregistering shelf state).state }

@@ -101,11 +101,11 @@ module _ (guards : (command : PinCommand) → GuardsPins (guard_of command) (pin
     toolkit_so (Err status) none = λ guard key shown. absurd (false≢true (sym (quiet none guard key) ∙ shown))
     toolkit_so (Ok outcome) none = quiet_guarded card bytes _ (quiet none) refl (same_with_rows card.persistent card.persistent outcome.next_sequence (passed_rows outcome.passed.log) refl) refl
 
-    pin_so : (guard : Guard) (outcome : Result PinOutcome StatusWord) → presents_by guard apdu.ins ≡ true → PresentsBy guard apdu.ins
-        → MatchResult outcome (Comes guard card.persistent.pins card.verified apdu) TellsNone → IfOk outcome (IsGuardedBy guard card.persistent.pins apdu.p2) → Q (pin_tried card outcome)
+    pin_so : (command : PinCommand) (key : ℕ) (guard : Guard) (outcome : Result PinOutcome StatusWord) → presents_by guard apdu.ins ≡ true → PresentsBy guard apdu.ins
+        → MatchResult outcome (Comes guard card.persistent.pins card.verified apdu) TellsNone → IfOk outcome (IsGuardedBy guard card.persistent.pins apdu.p2) → Q (pin_tried card command key outcome)
     unfolding and_given
-    pin_so guard (Err status) shows only comes guarded = none_told bytes status comes
-    pin_so guard (Ok outcome) shows only comes guarded = pin_guarded card bytes apdu read guard shows only outcome comes guarded.steps
+    pin_so command key guard (Err status) shows only comes guarded = none_told bytes status comes
+    pin_so command key guard (Ok outcome) shows only comes guarded = pin_guarded card bytes apdu read guard shows only command key outcome comes guarded.steps
 
     abbrev selection : Selection
     selection = selection_on card (channel_of apdu.class)
@@ -115,7 +115,7 @@ module _ (guards : (command : PinCommand) → GuardsPins (guard_of command) (pin
     carried_so (File command) is = file_so _ (none_by apdu.ins is) (file_leaves card.persistent (seen_by card) selection apdu command)
     carried_so (Pin command) is =
         let by = by_guard apdu.ins (guard_of command) is in
-        pin_so (guard_of command) _ by.0 by.1 (pin_comes card.persistent.pins card.verified apdu command) (guards command card.persistent.pins card.verified apdu)
+        pin_so command apdu.p2 (guard_of command) _ by.0 by.1 (pin_comes card.persistent.pins card.verified apdu command) (guards command card.persistent.pins card.verified apdu)
     carried_so ManageChannel is = channel_so _ (none_by apdu.ins is)
     carried_so (Toolkit command) is = toolkit_so _ (none_by apdu.ins is)
     carried_so (Tree command) is = tree_so _ (none_by apdu.ins is) (tree_leaves card.persistent (seen_by card) card.channels (channel_of apdu.class) apdu command)

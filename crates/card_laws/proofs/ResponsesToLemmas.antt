@@ -92,7 +92,7 @@ all_told shelf held now (Turned turn ∷ log) none reaches =
     (λ later rest. all_told shelf later now log none rest)
 all_told shelf held now (Fetched out ∷ log) none reaches = all_told shelf held now log none reaches
 all_told shelf held now (Given trigger ∷ log) none reaches = all_told shelf held now log none reaches
-all_told shelf held now (Committed rows ∷ log) none reaches = all_told shelf held now log none reaches
+all_told shelf held now (Committed change rows ∷ log) none reaches = all_told shelf held now log none reaches
 
 -- ---- commands
 

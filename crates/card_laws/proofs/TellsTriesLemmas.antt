@@ -17,6 +17,7 @@ use Rattle.file_model.specs.Pins.{pin_found, with_pin, presented, value_presente
 use Rattle.file_model.specs.Guards.{Guard, OfPin, OfUnblock, tries_by, with_one_less, GivesNoTries}
 use Rattle.file_model.specs.Laws.{EachStep}
 use Rattle.file_model.proofs.GuardsLemmas.{key_found, less_key, less_tries}
+use Rattle.file_model.specs.declared.commands.PinCommand.{PinCommand}
 use Rattle.card_model.specs.Answers.{Answered, cut_answer, refused, with_pins, on_pins, told_pending, with_pending}
 use Rattle.card_model.specs.States.{CardState}
 use Rattle.card_model.proofs.AnswersLemmas.{last_with_pins}
@@ -199,8 +200,8 @@ module _ (card : CardState) (bytes : List ℕ) (apdu : Apdu) (read : command_in 
       let first = and_parts (presents_by other apdu.ins) (apdu.p2 == key) last.0 in
       (only other first.0, sym (eqb-true apdu.p2 key first.1), not-true (has_no_data apdu) last.1)
 
-  told_none : (outcome : PinOutcome) → IsTold card.verified apdu outcome → IsGuarded card bytes (on_pins card outcome)
-  told_none outcome is = record {
+  told_none : (command : PinCommand) (at : ℕ) (outcome : PinOutcome) → IsTold card.verified apdu outcome → IsGuarded card bytes (on_pins card command at outcome)
+  told_none command at outcome is = record {
     ends = last_with_pins card.persistent card.persistent.pins outcome.passed;
     steps = each_step card.persistent card.persistent.pins outcome.passed (subst (EachStep GivesNoTries card.persistent.pins) (sym is.nothing) tt);
     guess = λ other key shown told. absurd (false≢true (sym (trial_shown other key shown).2 ∙ is.none));
@@ -246,8 +247,8 @@ module _ (card : CardState) (bytes : List ℕ) (apdu : Apdu) (read : command_in 
       subst (λ (o : PinOutcome). tells_tries o.status ≡ true → IsOneLess guard apdu.p2 o.status card.persistent.pins (last_of card.persistent.pins o.passed)) (sym is.is)
       (presented_guess card.persistent.pins card.verified apdu.p2 is.pin is.found guard is.some is.restored is.marks is.named (bytes_eq (value_presented apdu) (value_by guard is.pin)))
 
-  tried_guarded : (outcome : PinOutcome) → IsTrialOf guard card.persistent.pins card.verified apdu outcome → EachStep GivesNoTries card.persistent.pins outcome.passed → IsGuarded card bytes (on_pins card outcome)
-  tried_guarded outcome is steps = record {
+  tried_guarded : (command : PinCommand) (at : ℕ) (outcome : PinOutcome) → IsTrialOf guard card.persistent.pins card.verified apdu outcome → EachStep GivesNoTries card.persistent.pins outcome.passed → IsGuarded card bytes (on_pins card command at outcome)
+  tried_guarded command at outcome is steps = record {
     ends = last_with_pins card.persistent card.persistent.pins outcome.passed;
     steps = each_step card.persistent card.persistent.pins outcome.passed steps;
     guess = λ other key shown told.
@@ -258,9 +259,9 @@ module _ (card : CardState) (bytes : List ℕ) (apdu : Apdu) (read : command_in 
     mark = λ key pin found not_right unmarked. tried_mark outcome is key pin found not_right unmarked;
   }
 
-  pub pin_guarded : (outcome : PinOutcome) → Comes guard card.persistent.pins card.verified apdu outcome → EachStep GivesNoTries card.persistent.pins outcome.passed → IsGuarded card bytes (on_pins card outcome)
-  pin_guarded outcome (inl told) steps = told_none outcome told
-  pin_guarded outcome (inr is) steps = tried_guarded outcome is steps
+  pub pin_guarded : (command : PinCommand) (at : ℕ) (outcome : PinOutcome) → Comes guard card.persistent.pins card.verified apdu outcome → EachStep GivesNoTries card.persistent.pins outcome.passed → IsGuarded card bytes (on_pins card command at outcome)
+  pin_guarded command at outcome (inl told) steps = told_none command at outcome told
+  pin_guarded command at outcome (inr is) steps = tried_guarded command at outcome is steps
 
 -- ---- whatever the data are cut to
 

@@ -94,10 +94,10 @@ module _ (card : CardState) (good : IsGood card) (apdu : Apdu) where
   of_file (Err status) is = file_plain status is
   of_file (Ok outcome) is = listed_plain (DONE ∷ END_OF_FILE ∷ FILE_DEACTIVATED ∷ []) refl outcome.status is.status
 
-  of_pin : (outcome : Result PinOutcome StatusWord) → MatchResult outcome (IsLawfulPinOutcome card.persistent card.verified apdu.p2) (Contains pin_refusals) → PlainIn (pin_tried card outcome)
+  of_pin : (command : PinCommand) (key : ℕ) (outcome : Result PinOutcome StatusWord) → MatchResult outcome (IsLawfulPinOutcome card.persistent card.verified apdu.p2) (Contains pin_refusals) → PlainIn (pin_tried card command key outcome)
   unfolding and_given
-  of_pin (Err status) is = listed_plain pin_refusals refl status is
-  of_pin (Ok outcome) is = tries_plain outcome.status is.status
+  of_pin command key (Err status) is = listed_plain pin_refusals refl status is
+  of_pin command key (Ok outcome) is = tries_plain outcome.status is.status
 
   of_channel : (P : ChannelOutcome → Type 0) (outcome : Result ChannelOutcome StatusWord) → MatchResult outcome P (Contains statuses) → PlainIn (managed card outcome)
   unfolding and_given
@@ -123,7 +123,7 @@ module _ (card : CardState) (good : IsGood card) (apdu : Apdu) where
       carried_plain : (instruction : Instruction) → PlainIn (carried_out instruction card apdu)
       unfolding carried_out
       carried_plain (File command) = of_file _ (files command bytes apdu card.persistent (seen_by card) selection is good.sound (selected_is card good (channel_of apdu.class) (channel_low apdu.class)))
-      carried_plain (Pin command) = of_pin _ (pins command card.persistent card.verified apdu good.sound.sound)
+      carried_plain (Pin command) = of_pin command apdu.p2 _ (pins command card.persistent card.verified apdu good.sound.sound)
       carried_plain ManageChannel = of_channel _ _ (managed_lawful card good apdu)
       carried_plain (Toolkit command) = of_toolkit _ _ (outcome_is card apdu good (seen_by card) command)
       carried_plain (Tree command) = of_tree _ _ (trees command card.persistent (seen_by card) card.channels (channel_of apdu.class) apdu good.sound good.channels.selected)

@@ -6,6 +6,7 @@ use Rattle.list_laws.proofs.FindLemmas.{find_Some}
 use Rattle.list_laws.proofs.MapLemmas.{mapped_too}
 use Rattle.uicc_types.specs.declared.answers.StatusWord.{StatusWord}
 use Rattle.apdu_form.specs.Model.{Apdu}
+use Rattle.card_state.specs.Changes.{Change, changed, states_after}
 use Rattle.card_state.specs.Persistent.{Registration, Persistent}
 use Rattle.card_state.specs.Sections.{Installation, installation_of, needs_wide, new_row, with_row}
 use Rattle.card_state.specs.AppletKinds.{IsAppletKind}
@@ -18,7 +19,7 @@ use Rattle.applet_trait.specs.Minds.{AppletState}
 use Rattle.toolkit_model.specs.declared.faults.RowFault.{RowFault}
 use Rattle.toolkit_model.specs.declared.faults.RowFault.TheVariants.{BadData, NoBox, Narrow, Taken, MenuFull, Spent, NoRow, NotIdle}
 use Rattle.toolkit_model.specs.Orderly.{IsRegistered, asks}
-use Rattle.toolkit_model.specs.Passing.{ToolkitState, Passed, passed_rows}
+use Rattle.toolkit_model.specs.Passing.{ToolkitState, Happening, Passed, passed_rows, changes_in}
 use Rattle.toolkit_model.specs.Registry.{faulty_if, unless_missing, is_on, row_on, is_taken, is_menu_full, last_sequence, installed_row, deleted_row, without_row}
 use Rattle.toolkit_model.specs.Running.{mind_on}
 use Rattle.toolkit_model.specs.Driving.{is_idle}
@@ -37,6 +38,7 @@ use Rattle.card_model.specs.declared.instructions.CatCommand.TheVariants as tool
 use Rattle.card_laws.specs.Moving.{rows_by, HaveFixed, if_row, HasOrder, command_of}
 use Rattle.card_laws.proofs.HaveFixedLemmas.{AreBelow, rows_fixed, below_fixed, minds_fixed, applets_fixed}
 use Rattle.card_laws.proofs.AreOfKnownKindsLemmas.{BringsGood, at_shelf}
+use Rattle.card_laws.proofs.MakesLemmas.{AreFit, right_passes, add_makes, take_makes, with_fit}
 use Rattle.card_laws.proofs.PassedRowsLemmas.{Commits, now_fixed, profiled_commits, enveloped_commits, fetched_commits, responded_commits, CommitsFirst, installed_commits, deleted_commits}
 
 -- ---- the next sequence number
@@ -77,6 +79,8 @@ pub record Comes (card : CardState) (command : ToolkitInput) (outcome : ToolkitO
   pub later : card.persistent.next_sequence ≤ outcome.next_sequence
   pub brings : AreOfKnownKinds card.boxes → BringsGood card.persistent.is_wide outcome.next_sequence command
   pub next : (last_of card.persistent (states_passed card.persistent outcome)).next_sequence ≡ outcome.next_sequence
+  pub changes : All AreFit (passed_rows (moved command (toolkit_of card)).log)
+      → map (with_rows card.persistent outcome.next_sequence) (passed_rows (moved command (toolkit_of card)).log) ≡ states_after card.persistent (changes_in (moved command (toolkit_of card)).log)
 
 abbrev pub ComesTo : CardState → Option ToolkitInput → Result ToolkitOutcome StatusWord → Type 0
 ComesTo card command result = MatchResult result (λ outcome. IsSomeAnd command (λ each. Comes card each outcome)) Any
@@ -95,28 +99,40 @@ comes_by card ready command body accepted commits same brings = record {
       card.persistent.next_sequence ready.sequences;
   each = each_stands card card.persistent.next_sequence card.persistent.rows (passed_rows (moved command (toolkit_of card)).log) (record { are_rows = ready.order.rows; minds = ready.order.minds; below = ready.sequences; applets = λ have. have }) commits.each;
   next = numbered_last card.persistent card.persistent card.persistent.next_sequence (passed_rows (moved command (toolkit_of card)).log) refl;
+  changes = λ fit. right_passes card.persistent.rows (moved command (toolkit_of card)).log (moved command (toolkit_of card)).state.rows card.persistent refl commits.right fit;
 }
 
 -- where it commits its own change first
-first_ends : (rows changed : List Registration) (passed : Passed) → CommitsFirst changed passed → last_of rows (passed_rows passed.log) ≡ passed.state.rows
+first_ends : {change : Change} (rows changed : List Registration) (passed : Passed) → CommitsFirst change changed passed → last_of rows (passed_rows passed.log) ≡ passed.state.rows
 first_ends rows changed passed commits = ap (λ log. last_of rows (passed_rows log)) commits.first ∙ commits.others.ends
 
-first_below : (next : ℕ) (changed : List Registration) (passed : Passed) → CommitsFirst changed passed → AreBelow next changed → AreBelow next passed.state.rows
+first_below : {change : Change} (next : ℕ) (changed : List Registration) (passed : Passed) → CommitsFirst change changed passed → AreBelow next changed → AreBelow next passed.state.rows
 first_below next changed passed commits below = below_fixed changed passed.state.rows (now_fixed changed passed.state.rows commits.rest commits.others) next below
 
-first_each : (card : CardState) (next : ℕ) (changed : List Registration) (passed : Passed) → CommitsFirst changed passed → CanStand card next changed → All (CanStand card next) (passed_rows passed.log)
+first_each : {change : Change} (card : CardState) (next : ℕ) (changed : List Registration) (passed : Passed) → CommitsFirst change changed passed → CanStand card next changed → All (CanStand card next) (passed_rows passed.log)
 first_each card next changed passed commits stands =
     subst (λ log. All (CanStand card next) (passed_rows log)) (sym commits.first)
     (All-cons (CanStand card next) changed (passed_rows commits.rest) stands (each_stands card next changed (passed_rows commits.rest) stands commits.others.each))
 
-first_fixed : (changed : List Registration) (passed : Passed) → CommitsFirst changed passed → All (HaveFixed changed) (passed_rows passed.log)
+first_fixed : {change : Change} (changed : List Registration) (passed : Passed) → CommitsFirst change changed passed → All (HaveFixed changed) (passed_rows passed.log)
 first_fixed changed passed commits =
     subst (λ log. All (HaveFixed changed) (passed_rows log)) (sym commits.first)
     (All-cons (HaveFixed changed) changed (passed_rows commits.rest) refl commits.others.each)
 
-first_next : (state : Persistent) (next : ℕ) (changed : List Registration) (passed : Passed) → CommitsFirst changed passed → (last_of state (map (with_rows state next) (passed_rows passed.log))).next_sequence ≡ next
+first_next : {change : Change} (state : Persistent) (next : ℕ) (changed : List Registration) (passed : Passed) → CommitsFirst change changed passed → (last_of state (map (with_rows state next) (passed_rows passed.log))).next_sequence ≡ next
 first_next state next changed passed commits =
     ap (λ log. (last_of state (map (with_rows state next) (passed_rows log))).next_sequence) commits.first ∙ numbered_last (with_rows state next changed) state next (passed_rows commits.rest) refl
+
+first_passes : {change : Change} (card : Persistent) (next : ℕ) (changed_rows : List Registration) (passed : Passed) → CommitsFirst change changed_rows passed → (AreFit changed_rows → changed card change ≡ with_rows card next changed_rows)
+    → All AreFit (passed_rows passed.log) → map (with_rows card next) (passed_rows passed.log) ≡ states_after card (changes_in passed.log)
+unfolding states_after
+first_passes card next changed_rows passed commits first fit =
+    let fits : All AreFit (changed_rows ∷ passed_rows commits.rest) = subst (λ (log : List Happening). All AreFit (passed_rows log)) commits.first fit in
+    ap (λ (log : List Happening). map (with_rows card next) (passed_rows log)) commits.first
+    ∙ ap (λ (states : List Persistent). with_rows card next changed_rows ∷ states)
+    (right_passes changed_rows commits.rest passed.state.rows (with_rows card next changed_rows) refl commits.others.right (All-tail AreFit changed_rows (passed_rows commits.rest) fits))
+    ∙ ap (λ (state : Persistent). state ∷ states_after state (changes_in commits.rest)) (sym (first (All-head AreFit changed_rows (passed_rows commits.rest) fits)))
+    ∙ sym (ap (λ (log : List Happening). states_after card (changes_in log)) commits.first)
 
 -- ---- rows
 
@@ -249,6 +265,7 @@ module _ (installs : InstallationsAreAccepted) (sounds : InstalledRowsAreSound) 
             let sound = sounds card.persistent (kind_in card apdu.p2) apdu.p2 apdu.p1 apdu.body row low some (kind_known card.boxes apdu.p2 kinds) is in
             (sound, sound.kind);
         next = first_next card.persistent next (with_row card.persistent.rows row) (installed row at) commits;
+        changes = λ fit. first_passes card.persistent next (with_row card.persistent.rows row) (installed row at) commits (λ with_it. add_makes card.persistent row (with_fit card.persistent.rows row with_it)) fit;
       }
 
   install_comes : (seen : Verified) → ComesTo card (if_row (installed_row card.persistent (kind_in card apdu.p2) apdu.p2 apdu.p1 apdu.body)) (applet_installed card seen apdu)
@@ -283,6 +300,7 @@ module _ (installs : InstallationsAreAccepted) (sounds : InstalledRowsAreSound) 
         later = omega arith;
         brings = λ kinds. (tt, tt);
         next = first_next card.persistent card.persistent.next_sequence (without_row card.persistent.rows apdu.p2) (delete_carried apdu.p2 at) commits;
+        changes = λ fit. first_passes card.persistent card.persistent.next_sequence (without_row card.persistent.rows apdu.p2) (delete_carried apdu.p2 at) commits (λ without_it. take_makes card.persistent apdu.p2 ready.order.rows.shelves) fit;
       })
 
   delete_comes : (seen : Verified) → ComesTo card (Some (Delete apdu.p2)) (applet_deleted card seen apdu)

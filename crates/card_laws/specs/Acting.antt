@@ -113,7 +113,7 @@ TurnsTell = (turn : ShelfTurn) (point next : Point) (is : IsTurn turn point next
 abbrev pub ActInTurn : Point → List Happening → Point → Type 0
 ActInTurn point [] now = now ≡ point
 ActInTurn point (Turned turn ∷ log) now = (next : Point) × IsTurn turn point next × ActInTurn next log now
-ActInTurn point (Committed rows ∷ log) now = (rows ≡ point.rows) × ActInTurn point log now
+ActInTurn point (Committed change rows ∷ log) now = (rows ≡ point.rows) × ActInTurn point log now
 ActInTurn point (_ ∷ log) now = ActInTurn point log now
 
 -- the state that a command begins with: the profile is the new one, an applet that is installed is there with its row, one that is

@@ -46,7 +46,7 @@ EnvelopesAloneGive = (command : ToolkitInput) (state : ToolkitState) → all_giv
 -- turns of applets and commits of rows are noted within commands of each kind
 abbrev pub is_within : Happening → Bool
 is_within (Turned turn) = true
-is_within (Committed rows) = true
+is_within (Committed change rows) = true
 is_within _ = false
 
 -- what is noted besides, in order

@@ -4,6 +4,7 @@ use Rattle.uicc_types.specs.Told.{AreBytes}
 use Rattle.uicc_types.specs.declared.events.TheConstants.{PROFILE_DOWNLOAD, STATUS_COMMAND}
 use Rattle.uicc_types.specs.declared.answers.StatusWord.{StatusWord}
 use Rattle.apdu_form.specs.Model.{Apdu}
+use Rattle.card_state.specs.Changes.{states_after}
 use Rattle.file_model.specs.Laws.{IsSoundCard}
 use Rattle.toolkit_model.specs.Commands.{polled, unanswered, registered_told, with_profile, triggered_by, triggered}
 use Rattle.toolkit_model.specs.Driving.{is_idle, driven}
@@ -52,6 +53,12 @@ abbrev pub AnswersLeaveGoodCards : Type 0
 AnswersLeaveGoodCards =
     (knows : Instruction → Bool) (card : CardState) (bytes : List ℕ) → has_toolkit knows ≡ true → IsGood card → AreBytes bytes
     → IsGood (answer_of knows card bytes).state × All IsSoundCard (answer_of knows card bytes).commits
+
+-- what it passes is what its changes make of what it holds: it holds for good, after each commit, what is there after that change
+abbrev pub AnswersPassChanges : Type 0
+AnswersPassChanges =
+    (knows : Instruction → Bool) (card : CardState) (bytes : List ℕ) → has_toolkit knows ≡ true → IsGood card → AreBytes bytes
+    → (answer_of knows card bytes).commits ≡ states_after card.persistent (answer_of knows card bytes).changes
 
 -- and what a fault leaves of it is good
 abbrev pub FaultsLeaveGoodCards : Type 0

@@ -26,6 +26,6 @@ pub use stretches::{
     toolkit_laws_hold_throughout, unanswered_commands_stay,
 };
 pub use toolkit_laws::{
-    answers_with_applets_are_lawful, cards_go_on, cards_stay_good, toolkit_laws_hold_of_cards,
-    toolkit_laws_hold_of_runs, traces_alternate,
+    answers_pass_changes, answers_with_applets_are_lawful, cards_go_on, cards_stay_good,
+    toolkit_laws_hold_of_cards, toolkit_laws_hold_of_runs, traces_alternate,
 };

@@ -1,11 +1,14 @@
 //! What holds of the toolkit of every card that runs applets.
-ghost use Rattle.card_laws.specs.ToolkitLaws.{GoodCardsHaveOrder, AnswersGoOn, CommandsLeaveRows, TellingLeavesRows, RefusalsTakeNothing, AnswersLeaveGoodCards, FaultsLeaveGoodCards, EventsGoOn, OneCommandIsOutstanding, ResponsesReachWhoAsked, NoEventIsLost, IdleTargetsRunInOrder};
+ghost use Rattle.card_laws.specs.ToolkitLaws.{GoodCardsHaveOrder, AnswersGoOn, CommandsLeaveRows, TellingLeavesRows, RefusalsTakeNothing, AnswersLeaveGoodCards, AnswersPassChanges, FaultsLeaveGoodCards, EventsGoOn, OneCommandIsOutstanding, ResponsesReachWhoAsked, NoEventIsLost, IdleTargetsRunInOrder};
 ghost use Rattle.card_laws.specs.Lawful.{AnswersAreLawful, RefusalsChangeTriesAndMarkAlone};
 ghost use Rattle.card_laws.specs.ToolkitRuns.{RunsAreEvents, RunsLeaveGoodCards, ToolkitLawsHoldOfRuns};
 ghost use Rattle.card_laws.specs.Traces.{TracesAlternate, FetchesAreAnswered};
 
 use applet_trait::turns_are_lawful;
 use card_model::{answers_are_lawful, restarts_are_good};
+use file_model::{
+    commands_on_files_are_lawful, commands_on_trees_are_lawful, pin_commands_are_lawful,
+};
 use toolkit_model::{
     idle_targets_run_in_order, installations_are_accepted, installed_rows_are_sound,
     no_event_is_lost, one_command_is_outstanding, responses_reach_who_asked,
@@ -40,6 +43,21 @@ pub fn cards_stay_good()
     installed_rows_are_sound();
     steps_leave_good();
     turns_are_lawful();
+}
+
+/// What a good card that runs applets holds for good after each commit of a command is what the changes of its commits make of it,
+/// one after the other.
+pub fn answers_pass_changes()
+    ensures { AnswersPassChanges }
+{
+    // These calls are laws, and do nothing.
+    answers_are_lawful();
+    commands_on_files_are_lawful();
+    pin_commands_are_lawful();
+    commands_on_trees_are_lawful();
+    installations_are_accepted();
+    installed_rows_are_sound();
+    steps_leave_good();
 }
 
 /// What a good card that runs applets answers, whatever it is sent: each commit changes one file, one PIN or the rows, and leaves

@@ -23,6 +23,7 @@ use Rattle.file_model.specs.Channels.{selected_on, is_open, ChannelOutcome, clos
 use Rattle.file_model.specs.LawfulTrees.{ChangesOneNode, IsLawfulTree}
 use Rattle.file_model.specs.TreeOutcomes.{TreeOutcome}
 use Rattle.file_model.proofs.AtStartLemmas.{start_is_selected}
+use Rattle.file_model.specs.declared.commands.PinCommand.{PinCommand}
 use Rattle.toolkit_model.specs.Orderly.{IsOrderly}
 use Rattle.card_model.specs.Answers.{is_carried_out, on_files, on_pins, on_channels, on_trees, with_pins, selection_on}
 use Rattle.card_model.specs.Laws.{ChangesOneThing, ChangesAtMostTries, IsKnownStatus, IsLawfulAnswer, statuses}
@@ -197,10 +198,10 @@ module _ (card : CardState) (good : IsGood card) where
   last_tries key pins [] here all = here
   last_tries key pins (next ∷ passed) here all = last_tries key next passed (inr (all 0 next (omega arith))) (λ k d low. all (suc k) d (omega arith))
 
-  refused_pin : (outcome : PinOutcome) (key : ℕ) → IsLawfulPinOutcome held card.verified key outcome → (outcome.status ≡ DONE) ⊎ TellsTries outcome.status
-      → is_carried_out outcome.status ≡ false → ChangesAtMostTries key outcome.status card (on_pins card outcome).state
-  refused_pin outcome key lawful (inl done) not_done = absurd (false≢true (sym not_done ∙ ap is_carried_out done))
-  refused_pin outcome key lawful (inr tells) not_done =
+  refused_pin : (command : PinCommand) (at : ℕ) (outcome : PinOutcome) (key : ℕ) → IsLawfulPinOutcome held card.verified key outcome → (outcome.status ≡ DONE) ⊎ TellsTries outcome.status
+      → is_carried_out outcome.status ≡ false → ChangesAtMostTries key outcome.status card (on_pins card command at outcome).state
+  refused_pin command at outcome key lawful (inl done) not_done = absurd (false≢true (sym not_done ∙ ap is_carried_out done))
+  refused_pin command at outcome key lawful (inr tells) not_done =
       let left = lawful.refused tells in
       inr (
         tells,
@@ -214,8 +215,8 @@ module _ (card : CardState) (good : IsGood card) where
         },
       )
 
-  pub pins_lawful : (key : ℕ) (outcome : PinOutcome) → IsLawfulPinOutcome held card.verified key outcome → IsLawfulAnswer card false key (on_pins card outcome)
-  pins_lawful key outcome lawful =
+  pub pins_lawful : (command : PinCommand) (at key : ℕ) (outcome : PinOutcome) → IsLawfulPinOutcome held card.verified key outcome → IsLawfulAnswer card false key (on_pins card command at outcome)
+  pins_lawful command at key outcome lawful =
       let last : List Pin = last_of held.pins outcome.passed in
       record {
         good = record {
@@ -234,7 +235,7 @@ module _ (card : CardState) (good : IsGood card) where
         session = refl;
         short = omega arith;
         status = inl (known_pin outcome.status lawful.status);
-        refused = refused_pin outcome key lawful lawful.status;
+        refused = refused_pin command at outcome key lawful lawful.status;
       }
 
   -- ---- MANAGE CHANNEL

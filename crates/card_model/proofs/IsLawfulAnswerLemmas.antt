@@ -116,10 +116,10 @@ module _ (card : CardState) (good : IsGood card) where
   of_file apdu (Err status) is = inl (file_known status is)
   of_file apdu (Ok outcome) is = files_lawful card good (channel_of apdu.class) apdu.p2 outcome (channel_low apdu.class) is
 
-  of_pin : (key : ℕ) (outcome : Result PinOutcome StatusWord) → MatchResult outcome (IsLawfulPinOutcome card.persistent card.verified key) (Contains pin_refusals) → IsLawful false key (pin_tried card outcome)
+  of_pin : (command : PinCommand) (at key : ℕ) (outcome : Result PinOutcome StatusWord) → MatchResult outcome (IsLawfulPinOutcome card.persistent card.verified key) (Contains pin_refusals) → IsLawful false key (pin_tried card command at outcome)
   unfolding and_given
-  of_pin key (Err status) is = inl (pin_known status is)
-  of_pin key (Ok outcome) is = pins_lawful card good key outcome is
+  of_pin command at key (Err status) is = inl (pin_known status is)
+  of_pin command at key (Ok outcome) is = pins_lawful card good command at key outcome is
 
   of_channel : (key : ℕ) (outcome : Result ChannelOutcome StatusWord) → MatchResult outcome (λ done. AreChannels card.persistent done.channels × (length done.body ≤ 256)) (Contains statuses) → IsLawful false key (managed card outcome)
   unfolding and_given
@@ -144,7 +144,7 @@ module _ (card : CardState) (good : IsGood card) where
             unfolding carried_out
             carried_so (File command) =
                 of_others (File command) _ (of_file apdu _ (files command bytes apdu card.persistent (seen_by card) (selection_on card (channel_of apdu.class)) is good.sound (selected_is card good (channel_of apdu.class) (channel_low apdu.class))))
-            carried_so (Pin command) = of_others (Pin command) _ (of_pin apdu.p2 _ (pins command card.persistent card.verified apdu good.sound.sound))
+            carried_so (Pin command) = of_others (Pin command) _ (of_pin command apdu.p2 apdu.p2 _ (pins command card.persistent card.verified apdu good.sound.sound))
             carried_so ManageChannel = of_others ManageChannel _ (of_channel apdu.p2 _ (managed_lawful card good apdu))
             carried_so (Toolkit command) = of_toolkit command _ (toolkit_usual card _ (outcome_usual command card (seen_by card) apdu))
             carried_so (Tree command) = of_others (Tree command) _ (of_tree_command apdu.p2 _ (trees command card.persistent (seen_by card) card.channels (channel_of apdu.class) apdu good.sound good.channels.selected))

@@ -3,6 +3,7 @@ use Rattle.std.specs.Prelude.{ℕ, ◌+◌, ◌==◌, ◌/◌, ◌||◌, Bool, t
 use Rattle.uicc_types.specs.declared.answers.StatusWord.{StatusWord}
 use Rattle.uicc_types.specs.declared.answers.TheConstants.StatusWord.{DONE, END_OF_FILE, FILE_DEACTIVATED, WRONG_LENGTH}
 use Rattle.apdu_form.specs.Model.{Apdu, command_in, cut_to}
+use Rattle.card_state.specs.Changes.{Change}
 use Rattle.card_state.specs.Persistent.{Pin as HeldPin, Persistent}
 use Rattle.access_rules.specs.declared.rules.Verified.{Verified}
 use Rattle.file_model.specs.declared.selections.Selection.{Selection}
@@ -10,30 +11,34 @@ use Rattle.file_model.specs.declared.selections.TheConstants.Selection.{AT_START
 use Rattle.file_model.specs.Chains.{given, and_given}
 use Rattle.file_model.specs.Access.{keys_seen}
 use Rattle.file_model.specs.Outcomes.{FileOutcome, PinOutcome, last_of}
-use Rattle.file_model.specs.Commands.{file_outcome, pin_outcome}
+use Rattle.file_model.specs.Commands.{file_outcome, pin_outcome, first_fields, second_fields}
+use Rattle.file_model.specs.Pins.{pins_put}
+use Rattle.file_model.specs.declared.commands.PinCommand.{PinCommand}
 use Rattle.file_model.specs.declared.commands.FileCommand.TheVariants.{Status}
 use Rattle.file_model.specs.TreeCommands.{tree_outcome}
 use Rattle.file_model.specs.TreeOutcomes.{TreeOutcome}
 use Rattle.apdu_form.specs.Classes.{channel_of}
 use Rattle.file_model.specs.Channels.{ChannelOutcome, selected_on, channel_tried}
 use Rattle.toolkit_model.specs.Commands.{polled, pending}
+use Rattle.toolkit_model.specs.Passing.{changes_in}
 use Rattle.card_model.specs.States.{CardState}
 use Rattle.card_model.specs.Instructions.{instruction_tried, is_known, has_toolkit}
 use Rattle.card_model.specs.Toolkit.{ToolkitOutcome, toolkit_of, coming_to, states_passed, toolkit_outcome}
 use Rattle.card_model.specs.declared.instructions.Instruction.{Instruction}
 use Rattle.card_model.specs.declared.instructions.Instruction.TheVariants.{File, Pin, ManageChannel, Toolkit, Tree}
 
--- The data of the answer and the status, the card after the command, and what it held for good after each of the command's
--- commits, in order.
+-- The data of the answer and the status, the card after the command, and of each of its commits, in order, what the card held for good
+-- after it and what it changed.
 pub record Answered : Type 0 where
   pub body : List ℕ
   pub status : StatusWord
   pub state : CardState
   pub commits : List Persistent
+  pub changes : List Change
 
 -- no data, and nothing changes
 abbrev pub refused : CardState → StatusWord → Answered
-refused card status = record { body = []; status = status; state = card; commits = [] }
+refused card status = record { body = []; status = status; state = card; commits = []; changes = [] }
 
 -- ---- what each kind of command does to the card
 
@@ -47,15 +52,16 @@ on_files card channel outcome = record {
     channels = slice_set card.channels channel (Some outcome.selection);
   };
   commits = outcome.passed;
+  changes = outcome.changes;
 }
 
 -- what a card holds for good, with other PINs
 abbrev pub with_pins : Persistent → List HeldPin → Persistent
 with_pins persistent pins = record persistent { pins = pins }
 
--- a PIN command changes the PINs and the marks of the keys, which all channels share
-abbrev pub on_pins : CardState → PinOutcome → Answered
-on_pins card outcome = record {
+-- a PIN command for a key changes the PINs and the marks of the keys, which all channels share
+abbrev pub on_pins : CardState → PinCommand → ℕ → PinOutcome → Answered
+on_pins card command key outcome = record {
   body = [];
   status = outcome.status;
   state = record card {
@@ -63,6 +69,7 @@ on_pins card outcome = record {
     verified = outcome.verified;
   };
   commits = map (with_pins card.persistent) outcome.passed;
+  changes = pins_put (first_fields command) (second_fields command) key outcome.passed;
 }
 
 -- after MANAGE CHANNEL each channel has selected what the outcome says; nothing is committed
@@ -72,6 +79,7 @@ on_channels card outcome = record {
   status = DONE;
   state = record card { channels = outcome.channels };
   commits = [];
+  changes = [];
 }
 
 -- after a command that makes, deletes or resizes a file each channel has selected what the outcome says
@@ -84,6 +92,7 @@ on_trees card outcome = record {
     channels = outcome.channels;
   };
   commits = outcome.passed;
+  changes = outcome.changes;
 }
 
 -- a command of the toolkit moves the rows, the session and the applets
@@ -97,6 +106,7 @@ on_toolkit card outcome = record {
     boxes = outcome.passed.state.minds;
   };
   commits = states_passed card.persistent outcome;
+  changes = changes_in outcome.passed.log;
 }
 
 -- ---- the commands
@@ -114,8 +124,8 @@ abbrev pub file_tried : CardState → Apdu → Result FileOutcome StatusWord →
 file_tried card apdu outcome = and_given outcome (λ done. Ok (on_files card (channel_of apdu.class) done))
 
 -- the same of a PIN command
-abbrev pub pin_tried : CardState → Result PinOutcome StatusWord → Result Answered StatusWord
-pin_tried card outcome = and_given outcome (λ done. Ok (on_pins card done))
+abbrev pub pin_tried : CardState → PinCommand → ℕ → Result PinOutcome StatusWord → Result Answered StatusWord
+pin_tried card command key outcome = and_given outcome (λ done. Ok (on_pins card command key done))
 
 -- the same of MANAGE CHANNEL
 abbrev pub managed : CardState → Result ChannelOutcome StatusWord → Result Answered StatusWord
@@ -132,7 +142,7 @@ toolkit_tried card outcome = and_given outcome (λ done. Ok (on_toolkit card don
 -- what a command comes to on the card, or its refusal, by its instruction
 unfoldable pub carried_out : Instruction → CardState → Apdu → Result Answered StatusWord
 carried_out (File command) card apdu = file_tried card apdu (file_outcome command card.persistent (seen_by card) (selection_on card (channel_of apdu.class)) apdu)
-carried_out (Pin command) card apdu = pin_tried card (pin_outcome command card.persistent.pins card.verified apdu)
+carried_out (Pin command) card apdu = pin_tried card command apdu.p2 (pin_outcome command card.persistent.pins card.verified apdu)
 carried_out ManageChannel card apdu = managed card (channel_tried card.channels (selection_on card (channel_of apdu.class)) apdu)
 carried_out (Toolkit command) card apdu = toolkit_tried card (toolkit_outcome command card (seen_by card) apdu)
 carried_out (Tree command) card apdu = tree_tried card (tree_outcome command card.persistent (seen_by card) card.channels (channel_of apdu.class) apdu)
@@ -143,7 +153,7 @@ carried_out (Tree command) card apdu = tree_tried card (tree_outcome command car
 abbrev pub then_polled : Answered → Answered
 then_polled answered =
     let later = on_toolkit answered.state (coming_to answered.state [] (polled (toolkit_of answered.state))) in
-    record answered { state = later.state; commits = answered.commits ++ later.commits }
+    record answered { state = later.state; commits = answered.commits ++ later.commits; changes = answered.changes ++ later.changes }
 
 -- the instruction is that of STATUS
 abbrev pub is_status : Instruction → Bool

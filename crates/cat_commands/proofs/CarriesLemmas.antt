@@ -5,12 +5,11 @@ use Rattle.uicc_types.specs.declared.answers.StatusWord.{StatusWord}
 use Rattle.uicc_types.specs.declared.answers.TheConstants.StatusWord.{DONE}
 use Rattle.store_form.specs.declared.store.StoreFault.{StoreFault}
 use Rattle.card_state.specs.Memory.{IsMounted}
-use Rattle.card_state.specs.States.{rows_of}
 use Rattle.card_commits.specs.Laws.{TablesTellStates}
-use Rattle.toolkit_model.specs.Passing.{ToolkitState, Passed, passed_rows}
+use Rattle.toolkit_model.specs.Passing.{ToolkitState, Passed}
 use Rattle.toolkit_model.specs.Steps.{ToolkitInput, IsAccepted, AreAccepted, moved, moved_by}
 use Rattle.toolkit_model.specs.OrderlySessions.{IsInOrder}
-use Rattle.proactive_handler.specs.Runs.{StopsAt}
+use Rattle.proactive_handler.specs.Runs.{StopsIn}
 use Rattle.proactive_handler.specs.Steps.{Scene, toolkit, IsDone, MovesTo}
 use Rattle.card_model.specs.States.{CardState}
 use Rattle.card_model.specs.Toolkit.{ToolkitOutcome, toolkit_of, coming_to}
@@ -49,11 +48,11 @@ module _ (card : CardState) (old : Scene) (has : HasToolkit old card) where
 
     module _ (taken : Result ToolkitOutcome StatusWord) (out : Answer) (is : taken ≡ Ok (coming_to card body (step (toolkit_of card)))) (made : ToolkitState → Passed) (made_is : made ≡ step) where
       -- a fault stopped it
-      pub card_stops : {X : Type 0} (r : Result X StoreFault) → IsErr r → StopsAt (rows_of old.memory.table ∷ passed_rows (made (toolkit old)).log) old.memory new.memory → Carries taken out old new r
+      pub card_stops : {X : Type 0} (r : Result X StoreFault) → IsErr r → StopsIn (made (toolkit old)).log old.memory new.memory → Carries taken out old new r
       card_stops (Ok result) err stop = cc err
       card_stops {X} (Err fault) err stop =
-          let so = subst (λ (s : ToolkitState → Passed). StopsAt (rows_of old.memory.table ∷ passed_rows (s (toolkit old)).log) old.memory new.memory) made_is stop in
-          let there = subst (λ (s : ToolkitState). StopsAt (rows_of old.memory.table ∷ passed_rows (step s).log) old.memory new.memory) (sym toolkit_is) so in
+          let so = subst (λ (s : ToolkitState → Passed). StopsIn (s (toolkit old)).log old.memory new.memory) made_is stop in
+          let there = subst (λ (s : ToolkitState). StopsIn (step s).log old.memory new.memory) (sym toolkit_is) so in
           stopped_carries taken out old new {X = X} (Err fault) (coming_to card body (step (toolkit_of card))) err is (stop_comes (coming_to card body (step (toolkit_of card))) old new has.told.next tells there)
 
       -- it is done

@@ -13,7 +13,7 @@ use Rattle.file_model.specs.Outcomes.{last_of}
 use Rattle.card_commits.specs.Laws.{IsTold}
 use Rattle.toolkit_model.specs.Passing.{ToolkitState, passed_rows}
 use Rattle.proactive_handler.specs.Acts.{with_these_rows}
-use Rattle.proactive_handler.specs.Runs.{StopsAt}
+use Rattle.proactive_handler.specs.Runs.{StopsIn}
 use Rattle.proactive_handler.specs.Steps.{Scene, IsDone, MovesTo}
 use Rattle.card_model.specs.Toolkit.{ToolkitOutcome, with_rows}
 use Rattle.cat_commands.specs.Carrying.{state_at, last_state, HasCome, IsToolkitCutShort, Comes}
@@ -83,6 +83,7 @@ module _ (outcome : ToolkitOutcome) (old new : Scene) (next_is : outcome.next_se
         (ap (λ (r : List Registration). with_rows state state.next_sequence r) rows_is ∙ ap (λ (n : ℕ). with_rows state n outcome.passed.state.rows) (here.next ∙ sym next_is) ∙ sym last) again;
     last_is = done.last_is;
     counts = done.counts;
+    writes = done.writes;
   }
 
   stands_at : (stood later : Option Persistent) (count : ℕ) → ((state : Persistent) → stood ≡ Some state → IsTold old.memory.table state)
@@ -94,16 +95,17 @@ module _ (outcome : ToolkitOutcome) (old new : Scene) (next_is : outcome.next_se
       is ∙ ap (λ (s : Persistent). Some s)
       (sym (at_is state outcome.next_sequence (rows_of old.memory.table) here.rows (here.next ∙ sym next_is) (passed_rows outcome.passed.log) count low))
 
-  pub stop_comes : StopsAt (rows_of old.memory.table ∷ passed_rows outcome.passed.log) old.memory new.memory → IsToolkitCutShort outcome old new
+  pub stop_comes : StopsIn outcome.passed.log old.memory new.memory → IsToolkitCutShort outcome old new
   stop_comes stop = record {
-    count = stop.place;
-    one_more = omega (arith, stop.one_more);
-    rows_are = sym stop.table_is;
-    stands = ⊎_elim {C = (held new.memory ≡ option_map (state_at outcome stop.place) (held old.memory)) ⊎ (held new.memory ≡ option_map (state_at outcome (stop.place + 1)) (held old.memory))}
-        (λ before. inl (stands_at (held old.memory) (held new.memory) stop.place tells (omega (arith, stop.one_more)) before))
-        (λ behind. inr (stands_at (held old.memory) (held new.memory) (stop.place + 1) tells stop.one_more behind))
-        stop.stands;
-    commits = stop.commits;
+    count = stop.rows.place;
+    one_more = omega (arith, stop.rows.one_more);
+    rows_are = sym stop.rows.table_is;
+    stands = ⊎_elim {C = (held new.memory ≡ option_map (state_at outcome stop.rows.place) (held old.memory)) ⊎ (held new.memory ≡ option_map (state_at outcome (stop.rows.place + 1)) (held old.memory))}
+        (λ before. inl (stands_at (held old.memory) (held new.memory) stop.rows.place tells (omega (arith, stop.rows.one_more)) before))
+        (λ behind. inr (stands_at (held old.memory) (held new.memory) (stop.rows.place + 1) tells stop.rows.one_more behind))
+        stop.rows.stands;
+    commits = stop.rows.commits;
+    writes = stop.writes;
   }
 
   pub moves_come : {X : Type 0} (r : Result X StoreFault) → new.memory.table ≡ record old.memory.table { rows = new.memory.table.rows } → MovesTo outcome.passed old new r → Comes outcome old new r

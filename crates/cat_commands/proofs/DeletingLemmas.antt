@@ -8,6 +8,7 @@ use Rattle.uicc_types.specs.declared.answers.TheConstants.StatusWord.{WRONG_LENG
 use Rattle.uicc_types.specs.Counts.{raised}
 use Rattle.apdu_form.specs.Model.{Apdu}
 use Rattle.store_form.specs.declared.store.StoreFault.{StoreFault}
+use Rattle.card_state.specs.Changes.{TakeRow}
 use Rattle.card_state.specs.Memory.{held}
 use Rattle.card_state.specs.declared.entries.Loaded.{Loaded}
 use Rattle.card_state.specs.Persistent.{Registration, Persistent}
@@ -18,9 +19,11 @@ use Rattle.file_model.specs.Chains.{refused_if}
 use Rattle.apdu_form.specs.Fields.{has_no_data}
 use Rattle.card_commits.specs.Entries.{HasRowOn}
 use Rattle.card_commits.specs.Rows.{without_row_on, rows_alone}
+use Rattle.card_commits.specs.Writing.{written}
+use Rattle.card_commits.proofs.WritesAllLemmas.{one_written}
 use Rattle.timer_table.specs.Timers.{without}
 use Rattle.applet_trait.specs.Minds.{AppletState}
-use Rattle.toolkit_model.specs.Passing.{ToolkitState, passed_rows}
+use Rattle.toolkit_model.specs.Passing.{ToolkitState}
 use Rattle.toolkit_model.specs.declared.faults.RowFault.TheVariants.{NoRow, NotIdle}
 use Rattle.toolkit_model.specs.Registry.{unless_missing, faulty_if, is_on, row_on, without_row, deleted_row}
 use Rattle.toolkit_model.specs.Running.{mind_on, with_mind}
@@ -28,12 +31,13 @@ use Rattle.toolkit_model.specs.Driving.{driven}
 use Rattle.toolkit_model.specs.Commands.{unregistering, delete_carried}
 use Rattle.event_dispatch.proofs.CommitsLemmas.{deletes_row}
 use Rattle.proactive_handler.specs.Acts.{with_these_rows}
-use Rattle.proactive_handler.specs.Runs.{StopsAt}
+use Rattle.proactive_handler.specs.Runs.{StopsIn}
 use Rattle.proactive_handler.specs.Boxes.{kinds_of}
 use Rattle.proactive_handler.proofs.StopsAtLemmas.{both_done, second_stops}
 use Rattle.proactive_handler.specs.Moved.{HasRowsOf}
 use Rattle.proactive_handler.proofs.MovedLemmas.{stands_still}
 use Rattle.proactive_handler.proofs.CountingLemmas.{counts_one}
+use Rattle.proactive_handler.proofs.WrittenLemmas.{stops_first}
 use Rattle.proactive_handler.specs.Steps.{Scene, toolkit, IsDone, MovesTo}
 use Rattle.card_model.specs.Toolkit.{has_shelf, row_or_status}
 use Rattle.cat_commands.specs.Deleting.{HasNoRow, HasLost}
@@ -111,24 +115,30 @@ without_held shelf rows (Some state) ascend has =
 module _ (shelf : ℕ) (old : Scene) (ascend : AllPairs (λ a b. a.shelf < b.shelf) (rows_of old.memory.table)) (has : HasRowsOf (held old.memory) (rows_of old.memory.table)) where
   -- a fault stopped it
   pub stays_registered : {X : Type 0} (new : Scene) (r : Result X StoreFault) → IsErr r → rows_of new.memory.table ≡ rows_of old.memory.table
-      → (held new.memory ≡ held old.memory) ⊎ (held new.memory ≡ option_map (without_row_on shelf) (held old.memory)) → new.memory.commits ≡ old.memory.commits → MovesTo (unregistering shelf (toolkit old)) old new r
-  stays_registered new (Ok result) err rows stands none = cc err
-  stays_registered new (Err fault) err rows stands none = record {
-    place = 0;
-    one_more = omega arith;
-    table_is = sym rows;
-    stands = ⊎_elim {C = (held new.memory ≡ option_map (with_these_rows (rows_of old.memory.table)) (held old.memory)) ⊎ (held new.memory ≡ option_map (with_these_rows (without_row (rows_of old.memory.table) shelf)) (held old.memory))}
-        (λ before. inl (before ∙ stands_still (held old.memory) (rows_of old.memory.table) has)) (λ behind. inr (behind ∙ without_held shelf (rows_of old.memory.table) (held old.memory) ascend has)) stands;
-    commits = none;
+      → (held new.memory ≡ held old.memory) ⊎ (held new.memory ≡ option_map (without_row_on shelf) (held old.memory)) → new.memory.commits ≡ old.memory.commits
+      → (new.memory.told ≡ old.memory.told) ⊎ (new.memory.told ≡ option_map (written (TakeRow shelf)) old.memory.told) → MovesTo (unregistering shelf (toolkit old)) old new r
+  stays_registered new (Ok result) err rows stands none put = cc err
+  stays_registered new (Err fault) err rows stands none put = record {
+    rows = record {
+      place = 0;
+      one_more = omega arith;
+      table_is = sym rows;
+      stands = ⊎_elim {C = (held new.memory ≡ option_map (with_these_rows (rows_of old.memory.table)) (held old.memory)) ⊎ (held new.memory ≡ option_map (with_these_rows (without_row (rows_of old.memory.table) shelf)) (held old.memory))}
+          (λ before. inl (before ∙ stands_still (held old.memory) (rows_of old.memory.table) has)) (λ behind. inr (behind ∙ without_held shelf (rows_of old.memory.table) (held old.memory) ascend has)) stands;
+      commits = none;
+    };
+    writes = stops_first (TakeRow shelf) [] old.memory new.memory put none;
   }
 
   pub goes : (new : Scene) → rows_of new.memory.table ≡ without_row (rows_of old.memory.table) shelf → new.session ≡ record old.session { timers = map (without (record { 0 = shelf })) old.session.timers } → new.minds ≡ with_mind old.minds shelf None
-      → held new.memory ≡ option_map (without_row_on shelf) (held old.memory) → new.memory.commits ≡ raised old.memory.commits → IsDone (unregistering shelf (toolkit old)) old new
-  goes new rows session minds stands once = record {
+      → held new.memory ≡ option_map (without_row_on shelf) (held old.memory) → new.memory.commits ≡ raised old.memory.commits
+      → new.memory.told ≡ option_map (written (TakeRow shelf)) old.memory.told → IsDone (unregistering shelf (toolkit old)) old new
+  goes new rows session minds stands once put = record {
     state_is = λ i. let each : ToolkitState = record { rows = rows i; session = session i; minds = minds i } in each;
     stands = stands ∙ without_held shelf (rows_of old.memory.table) (held old.memory) ascend has;
     last_is = refl;
     counts = counts_one (without_row (rows_of old.memory.table) shelf) old.memory new.memory once;
+    writes = put ∙ one_written (TakeRow shelf) old.memory.told;
   }
 
 -- the rows of the table, as a card's commit leaves them
@@ -138,7 +148,7 @@ rows_without old new shelf ascend is = is ∙ deletes_row (rows_alone old) shelf
 -- ---- and then the end of the command
 
 module _ (shelf : ℕ) (old mid : Scene) where
-  pub removed_stops : {X : Type 0} (r : Result X StoreFault) → IsErr r → StopsAt (rows_of old.memory.table ∷ passed_rows (unregistering shelf (toolkit old)).log) old.memory mid.memory → MovesTo (delete_carried shelf (toolkit old)) old mid r
+  pub removed_stops : {X : Type 0} (r : Result X StoreFault) → IsErr r → StopsIn (unregistering shelf (toolkit old)).log old.memory mid.memory → MovesTo (delete_carried shelf (toolkit old)) old mid r
   unfolding delete_carried
   removed_stops r err stop = step_stops (unregistering shelf (toolkit old)) driven old mid r err stop
 
@@ -147,8 +157,8 @@ module _ (shelf : ℕ) (old mid : Scene) where
   removed_done new done last = both_done (unregistering shelf (toolkit old)) driven old mid new done last
 
   -- a fault stopped the end, whatever became of the minds
-  pub removed_then_stops : (new : Scene) → IsDone (unregistering shelf (toolkit old)) old mid → StopsAt (rows_of mid.memory.table ∷ passed_rows (driven (toolkit mid)).log) mid.memory new.memory
-      → StopsAt (rows_of old.memory.table ∷ passed_rows (delete_carried shelf (toolkit old)).log) old.memory new.memory
+  pub removed_then_stops : (new : Scene) → IsDone (unregistering shelf (toolkit old)) old mid → StopsIn (driven (toolkit mid)).log mid.memory new.memory
+      → StopsIn (delete_carried shelf (toolkit old)).log old.memory new.memory
   unfolding delete_carried
   removed_then_stops new done stop = second_stops (unregistering shelf (toolkit old)) driven old mid new done stop
 

@@ -1,6 +1,6 @@
 -- From the test of FETCH (`fetch_tried`) or TERMINAL RESPONSE (`response_tried`) to what the abstract card answers: `_out`, a
 -- command is there; `_at`, it is carried out; `_not`, it is refused. The proofs of `fetch` and `take_response` alone stand on these.
-use Rattle.std.proofs.Common.{◌≡◌, refl, sym, ap, ◌∙◌, subst, ℕ, true, List, Option, Some, None, length, is_some, IfSome, option_map, Ok, Err}
+use Rattle.std.proofs.Common.{◌≡◌, refl, sym, ap, ◌∙◌, subst, ℕ, true, List, [], ◌∷◌, Option, Some, None, length, is_some, IfSome, option_map, Ok, Err}
 use Rattle.uicc_types.specs.declared.answers.StatusWord.{StatusWord}
 use Rattle.apdu_form.specs.Model.{Apdu}
 use Rattle.card_state.specs.Memory.{held}
@@ -8,9 +8,10 @@ use Rattle.card_state.specs.Persistent.{Persistent}
 use Rattle.toolkit_commands.specs.declared.commands.Details.{Details}
 use Rattle.toolkit_commands.specs.declared.responses.Response.{Response}
 use Rattle.toolkit_model.specs.Sessions.{Outstanding, SessionState}
-use Rattle.toolkit_model.specs.Passing.{ToolkitState}
+use Rattle.toolkit_model.specs.Passing.{ToolkitState, Fetched}
 use Rattle.toolkit_model.specs.Commands.{unfetched, unanswered, pending, command_bytes, as_fetched, fetched}
 use Rattle.proactive_handler.proofs.CountingLemmas.{counts_none}
+use Rattle.proactive_handler.proofs.WrittenLemmas.{writes_none}
 use Rattle.proactive_handler.specs.Steps.{Scene}
 use Rattle.card_model.specs.States.{CardState}
 use Rattle.card_model.specs.Toolkit.{toolkit_of, coming_to, command_fetched, response_taken}
@@ -60,6 +61,7 @@ fetched_comes card old session body out has is = record {
   tells = λ state told. told;
   last_is = ap (λ rows. Some rows) (sym has.told.rows);
   counts = counts_none old.memory old.memory refl;
+  writes = writes_none (Fetched out ∷ []) old.memory old.memory refl refl;
 }
 
 pub fetched_order : (state : ToolkitState) (session : SessionState) (out : Outstanding) → session ≡ record state.session { out = Some (as_fetched out) } → record state { session = session } ≡ (fetched out state).state

@@ -1,5 +1,5 @@
 -- The commit of a new row, and then the end of the command.
-use Rattle.std.proofs.Common.{◌≡◌, refl, sym, ap, ◌∙◌, subst, ⊎_elim, inl, inr, ℕ, zero, suc, ◌+◌, ◌<◌, List, [], ◌∷◌, ◌++◌, map, Option, Some, None, arith, ◌⊎◌, length, slice_index_or, option_map, Result, Ok, Err, Contains, filter, nat_lt}
+use Rattle.std.proofs.Common.{◌≡◌, refl, sym, ap, ◌∙◌, subst, ⊎_elim, inl, inr, ℕ, zero, suc, ◌+◌, ◌<◌, List, [], ◌∷◌, ◌++◌, map, Option, Some, None, arith, ◌⊎◌, length, slice_index_or, option_map, true, Result, Ok, Err, IsErr, Contains, filter, nat_lt}
 use Rattle.std.proofs.lemmas.List.Elements.{Contains-append_left, Contains-append_right}
 use Rattle.std.specs.List.{last_or}
 use Rattle.std.proofs.lemmas.List.{length-map}
@@ -7,6 +7,7 @@ use Rattle.uicc_types.specs.Counts.{raised, raised_by}
 use Rattle.store_form.specs.declared.store.StoreFault.{StoreFault}
 use Rattle.card_state.specs.declared.entries.Row.{Row}
 use Rattle.card_state.specs.declared.entries.Loaded.{Loaded}
+use Rattle.card_state.specs.Changes.{AddRow}
 use Rattle.card_state.specs.Memory.{Memory, held}
 use Rattle.card_state.specs.Persistent.{Registration, Persistent}
 use Rattle.card_state.specs.Sections.{with_row}
@@ -16,8 +17,12 @@ use Rattle.file_model.specs.Outcomes.{last_of}
 use Rattle.card_commits.specs.Laws.{IsTold}
 use Rattle.card_commits.specs.Entries.{with_row_at}
 use Rattle.card_commits.specs.Rows.{with_row_installed, rows_alone}
+use Rattle.card_commits.specs.Writing.{written}
+use Rattle.card_commits.proofs.WritesAllLemmas.{one_written}
 use Rattle.applet_trait.specs.Minds.{AppletState, fresh, kind_on}
-use Rattle.toolkit_model.specs.Passing.{ToolkitState, Passed, passed_rows}
+use Rattle.toolkit_model.specs.Passing.{ToolkitState, Happening, Passed, passed_rows}
+use Rattle.toolkit_model.specs.Changes.{entry_of}
+use Rattle.toolkit_model.proofs.EventsOfLemmas.{events_back}
 use Rattle.toolkit_model.specs.Running.{mind_on, with_mind}
 use Rattle.toolkit_model.specs.Driving.{driven}
 use Rattle.toolkit_model.specs.Commands.{registering, installed}
@@ -25,11 +30,13 @@ use Rattle.event_dispatch.proofs.CommitsLemmas.{installs_row}
 use Rattle.proactive_handler.specs.Boxes.{kinds_of}
 use Rattle.proactive_handler.proofs.MovedLemmas.{kinds_stay}
 use Rattle.proactive_handler.specs.Counting.{Counts}
+use Rattle.proactive_handler.specs.Written.{IsWritten, IsPartlyWritten}
 use Rattle.proactive_handler.proofs.CountingLemmas.{counts_one, counts_then}
+use Rattle.proactive_handler.proofs.WrittenLemmas.{writes_then, stops_first, partly_first, partly_then}
 use Rattle.proactive_handler.specs.Steps.{Scene, toolkit, MovesTo}
 use Rattle.card_model.specs.Toolkit.{ToolkitOutcome, with_rows}
 use Rattle.cat_commands.specs.Carrying.{state_at, last_state, HasCome, IsToolkitCutShort, Comes}
-use Rattle.cat_commands.specs.Registering.{IsRegistered, IsNotRegistered}
+use Rattle.cat_commands.specs.Registering.{IsRegistered, IsNotRegistered, Registers}
 use Rattle.cat_commands.proofs.ComesLemmas.{Tells, moves_come}
 
 -- ---- the commit
@@ -53,6 +60,13 @@ pub wakes_kind : (minds new : List (Option AppletState)) (shelf kind : ℕ) (kep
     → new ≡ with_mind minds shelf (option_map (λ mind. fresh mind.kind bytes) (mind_on minds shelf)) → kinds_of new ≡ kinds_of minds
 wakes_kind minds new shelf kind kept bytes there same is = ap kinds_of (wakes minds new shelf kind kept bytes there same is) ∙ same_kinds minds shelf kind kept (mind_on minds shelf) refl there
 
+-- the entry of its registration is the row
+entry_back : (shelf : ℕ) (row : Row) → row.used ≡ true → row.events < 4096 → row ≡ entry_of (registration_of shelf row)
+entry_back shelf row used low = λ i. let each : Row = record { used = used i; kind = row.kind; priority = row.priority; sequence = row.sequence; events = sym (events_back row.events low) i; text = row.text; kept = row.kept } in each
+
+entry_written : (shelf : ℕ) (row : Row) → row.used ≡ true → row.events < 4096 → (told : Option (List ℕ)) → option_map (written (AddRow shelf row)) told ≡ option_map (written (AddRow shelf (entry_of (registration_of shelf row)))) told
+entry_written shelf row used low told = ap (λ (entry : Row). option_map (written (AddRow shelf entry)) told) (entry_back shelf row used low)
+
 module _ (old new : Scene) (shelf : ℕ) (row : Row) (table : new.memory.table ≡ record (with_row_at old.memory.table shelf row) { next = old.memory.table.next + 1 })
     (rows : rows_of new.memory.table ≡ (with_row_installed (registration_of shelf row) (rows_alone old.memory.table)).rows) where
   pub rows_with : rows_of new.memory.table ≡ with_row (rows_of old.memory.table) (registration_of shelf row)
@@ -69,14 +83,28 @@ module _ (old new : Scene) (shelf : ℕ) (row : Row) (table : new.memory.table �
   }
 
   pub registered_so : new.session ≡ old.session → new.minds ≡ with_mind old.minds shelf (Some (fresh row.kind row.kept)) → held new.memory ≡ option_map (with_row_installed (registration_of shelf row)) (held old.memory)
-      → new.memory.commits ≡ raised old.memory.commits → IsRegistered (registration_of shelf row) old new
-  registered_so session minds stands once = record {
+      → new.memory.commits ≡ raised old.memory.commits → row.used ≡ true → row.events < 4096 → new.memory.told ≡ option_map (written (AddRow shelf row)) old.memory.told → IsRegistered (registration_of shelf row) old new
+  registered_so session minds stands once used low put = record {
     toolkit_is = λ i. let each : ToolkitState = record { rows = rows_with i; session = session i; minds = minds i } in each;
     next = ap (λ (t : Loaded). t.next) table;
     stands = stands;
     tells = told_with;
     commits = once;
+    writes = put ∙ entry_written shelf row used low old.memory.told ∙ one_written (AddRow shelf (entry_of (registration_of shelf row))) old.memory.told;
   }
+
+-- a fault stopped it
+pub registered_not : {X : Type 0} (old new : Scene) (shelf : ℕ) (row : Row) (r : Result X StoreFault) → IsErr r → new.memory.table ≡ old.memory.table
+    → (held new.memory ≡ held old.memory) ⊎ (held new.memory ≡ option_map (with_row_installed (registration_of shelf row)) (held old.memory)) → new.memory.commits ≡ old.memory.commits → row.used ≡ true → row.events < 4096
+    → (new.memory.told ≡ old.memory.told) ⊎ (new.memory.told ≡ option_map (written (AddRow shelf row)) old.memory.told) → Registers (registration_of shelf row) old new r
+registered_not old new shelf row (Ok result) err stays stands none used low put = cc err
+registered_not old new shelf row (Err fault) err stays stands none used low put = record {
+  stays = stays;
+  stands = stands;
+  commits = none;
+  writes = stops_first (AddRow shelf (entry_of (registration_of shelf row))) [] old.memory new.memory
+      (⊎_elim {C = (new.memory.told ≡ old.memory.told) ⊎ (new.memory.told ≡ option_map (written (AddRow shelf (entry_of (registration_of shelf row)))) old.memory.told)} inl (λ after. inr (after ∙ entry_written shelf row used low old.memory.told)) put) none;
+}
 
 -- ---- what a card comes to
 
@@ -96,6 +124,10 @@ module _ (row : Registration) (old : Scene) (tells : Tells old) where
   passed_is : passed_rows outcome.passed.log ≡ with_row (rows_of old.memory.table) row ∷ passed_rows (driven step.state).log
   unfolding installed step
   passed_is = refl
+
+  log_then : outcome.passed.log ≡ (registering row (toolkit old)).log ++ (driven (registering row (toolkit old)).state).log
+  unfolding installed
+  log_then = refl
 
   first_at : (state : Persistent) → state_at outcome 1 state ≡ with_rows state (old.memory.table.next + 1) (with_row (rows_of old.memory.table) row)
   first_at state = ap (λ (p : List (List Registration)). slice_index_or (state ∷ map (with_rows state (old.memory.table.next + 1)) p) 1 state) passed_is
@@ -117,6 +149,8 @@ module _ (row : Registration) (old : Scene) (tells : Tells old) where
     stands = ⊎_elim {C = ((held new.memory) ≡ option_map (state_at outcome 0) (held old.memory)) ⊎ ((held new.memory) ≡ option_map (state_at outcome 1) (held old.memory))}
         (λ before. inl (before ∙ same_held (held old.memory))) (λ behind. inr (behind ∙ one_held (held old.memory) tells)) stopped.stands;
     commits = stopped.commits;
+    writes = subst (λ (log : List Happening). IsPartlyWritten log old.memory new.memory) (sym log_then)
+        (partly_first (registering row (toolkit old)).log (driven (registering row (toolkit old)).state).log old.memory new.memory stopped.writes);
   }
 
   module _ (mid : Scene) (is : IsRegistered row old mid) where
@@ -179,6 +213,9 @@ module _ (row : Registration) (old : Scene) (tells : Tells old) where
       tells = λ state told. subst (IsTold new.memory.table) (sym (last_same state told)) (comes.tells (with_row_installed row state) (is.tells state told));
       last_is = ap (last_or (Some (rows_of old.memory.table))) log_is ∙ sym (ap (λ (r : List Registration). last_or (Some r) (passed_rows ending.passed.log)) mid_rows) ∙ comes.last_is ∙ sym (ap (λ (s : ToolkitState). Some s.rows) state_is);
       counts = then_counts new.memory comes.counts;
+      writes = subst (λ (log : List Happening). IsWritten log old.memory new.memory) (sym log_then)
+          (writes_then (registering row (toolkit old)).log (driven (registering row (toolkit old)).state).log old.memory mid.memory new.memory is.writes
+          (subst (λ (s : ToolkitState). IsWritten (driven s).log mid.memory new.memory) is.toolkit_is comes.writes));
     }
 
     held_at : (stood middle later : Option Persistent) (count : ℕ) → ((state : Persistent) → stood ≡ Some state → IsTold old.memory.table state)
@@ -202,6 +239,9 @@ module _ (row : Registration) (old : Scene) (tells : Tells old) where
               (λ behind. inr (held_at (held old.memory) (held mid.memory) (held new.memory) (short.count + 1) tells (λ state. omega (arith, short.one_more, long state)) is.stands behind))
               short.stands;
           commits = short.commits ∙ ap (raised_by short.count) is.commits ∙ ap (λ (n : ℕ). raised_by n old.memory.commits) one;
+          writes = subst (λ (log : List Happening). IsPartlyWritten log old.memory new.memory) (sym log_then)
+              (partly_then (registering row (toolkit old)).log (driven (registering row (toolkit old)).state).log old.memory mid.memory new.memory is.writes is.commits
+              (subst (λ (s : ToolkitState). IsPartlyWritten (driven s).log mid.memory new.memory) is.toolkit_is short.writes));
         }
       where
         rows_later : (count : ℕ) → slice_index_or (with_row (rows_of old.memory.table) row ∷ passed_rows ending.passed.log) count [] ≡ slice_index_or (rows_of old.memory.table ∷ passed_rows outcome.passed.log) (count + 1) []

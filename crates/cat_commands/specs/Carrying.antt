@@ -13,6 +13,7 @@ use Rattle.file_model.specs.Outcomes.{last_of}
 use Rattle.card_commits.specs.Laws.{IsTold}
 use Rattle.toolkit_model.specs.Passing.{passed_rows}
 use Rattle.proactive_handler.specs.Counting.{Counts}
+use Rattle.proactive_handler.specs.Written.{IsWritten, IsPartlyWritten}
 use Rattle.proactive_handler.specs.Steps.{Scene, toolkit}
 use Rattle.card_model.specs.States.{CardState}
 use Rattle.card_model.specs.Toolkit.{ToolkitOutcome, states_passed}
@@ -36,7 +37,7 @@ last_state outcome persistent = last_of persistent (states_passed persistent out
 
 -- The toolkit is as it is defined, the store stands for the state after all commits, and of that the table tells; its
 -- rows are the last that were committed. There was a commit for each state that the command passes, and no other; where it
--- passes none the bytes stay.
+-- passes none the bytes stay. What the commits changed was written.
 pub record HasCome (outcome : ToolkitOutcome) (old new : Scene) : Type 0 where
   pub toolkit_is : toolkit new ≡ outcome.passed.state
   pub next : new.memory.table.next ≡ outcome.next_sequence
@@ -46,6 +47,7 @@ pub record HasCome (outcome : ToolkitOutcome) (old new : Scene) : Type 0 where
   pub last_is : last_or (Some (rows_of old.memory.table)) (passed_rows outcome.passed.log)
       ≡ Some outcome.passed.state.rows
   pub counts : Counts (passed_rows outcome.passed.log) old.memory new.memory
+  pub writes : IsWritten outcome.passed.log old.memory new.memory
 
 -- A fault stopped one of the commits: the table has the rows before it, and the store stands for the state before it or
 -- for the one after it. Those before it are counted, and no other.
@@ -57,6 +59,7 @@ pub record IsToolkitCutShort (outcome : ToolkitOutcome) (old new : Scene) : Type
   pub stands : (held new.memory ≡ option_map (state_at outcome count) (held old.memory))
       ⊎ (held new.memory ≡ option_map (state_at outcome (count + 1)) (held old.memory))
   pub commits : new.memory.commits ≡ raised_by count old.memory.commits
+  pub writes : IsPartlyWritten outcome.passed.log old.memory new.memory
 
 -- what a command comes to after Ok, or where a fault stops it
 abbrev pub Comes : {X : Type 0} → ToolkitOutcome → Scene → Scene → Result X StoreFault → Type 0

@@ -12,6 +12,7 @@ use Rattle.card_commits.specs.Laws.{IsTold}
 use Rattle.applet_trait.specs.Minds.{kind_on}
 use Rattle.toolkit_model.specs.Commands.{registering}
 use Rattle.toolkit_model.specs.Registry.{is_taken}
+use Rattle.proactive_handler.specs.Written.{IsWritten, IsPartlyWritten}
 use Rattle.proactive_handler.specs.Steps.{Scene, toolkit}
 
 -- this row may be installed on this shelf, for the applet in its box
@@ -29,6 +30,7 @@ pub record IsRegistered (row : Registration) (old new : Scene) : Type 0 where
   pub tells : (state : Persistent) → IsTold old.memory.table state
       → IsTold new.memory.table (with_row_installed row state)
   pub commits : new.memory.commits ≡ raised old.memory.commits
+  pub writes : IsWritten (registering row (toolkit old)).log old.memory new.memory
 
 -- a fault stopped the commit, which isn't counted
 pub record IsNotRegistered (row : Registration) (old new : Scene) : Type 0 where
@@ -36,6 +38,7 @@ pub record IsNotRegistered (row : Registration) (old new : Scene) : Type 0 where
   pub stands : (held new.memory ≡ held old.memory)
       ⊎ (held new.memory ≡ option_map (with_row_installed row) (held old.memory))
   pub commits : new.memory.commits ≡ old.memory.commits
+  pub writes : IsPartlyWritten (registering row (toolkit old)).log old.memory new.memory
 
 -- what the commit of a row comes to after Ok, or where a fault stops it
 abbrev pub Registers : {X : Type 0} → Registration → Scene → Scene → Result X StoreFault → Type 0

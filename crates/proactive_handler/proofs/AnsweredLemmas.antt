@@ -11,7 +11,7 @@ use Rattle.toolkit_model.specs.Running.{run_of_row}
 use Rattle.toolkit_model.specs.Commands.{unanswered, resumed, with_nothing_out, answered, responded}
 use Rattle.toolkit_model.specs.Driving.{driven}
 use Rattle.toolkit_model.proofs.AsksLemmas.{run_late}
-use Rattle.proactive_handler.specs.Runs.{StopsAt}
+use Rattle.proactive_handler.specs.Runs.{StopsIn}
 use Rattle.proactive_handler.specs.Steps.{toolkit, Scene, IsDone, MovesTo}
 use Rattle.proactive_handler.proofs.StopsAtLemmas.{first_stops, then_moves}
 use Rattle.proactive_handler.specs.Boxes.{IsSameBox}
@@ -85,7 +85,7 @@ module _ (old : Scene) (waits : IsAwaited old.session) (left : SessionState) (re
   owner_done new shelf text text_is owner done = owner_moves {X = ℕ} new (Ok 0) shelf text text_is owner done
 
   pub owner_stops : {X : Type 0} (new : Scene) (r : Result X StoreFault) → IsErr r → (shelf : ℕ) (text : List ℕ) → text ≡ reply.text → waits.out.owner ≡ Some shelf
-      → StopsAt (rows_of old.memory.table ∷ passed_rows (run_of_row shelf (Response reply.result reply.item text) true (toolkit early)).log) old.memory new.memory
+      → StopsIn (run_of_row shelf (Response reply.result reply.item text) true (toolkit early)).log old.memory new.memory
       → MovesTo (answered waits.out reply (toolkit old)) old new r
   owner_stops new (Ok x) err shelf text text_is owner stop = cc err
   owner_stops new (Err fault) err shelf text text_is owner stop = owner_moves {X = ℕ} new (Err fault) shelf text text_is owner stop
@@ -104,10 +104,10 @@ unfolding responded
 responded_is out reply state = refl
 
 module _ (out : Outstanding) (reply : Reply) (old mid : Scene) where
-  pub responded_stops : {X : Type 0} (r : Result X StoreFault) → IsErr r → StopsAt (rows_of old.memory.table ∷ passed_rows (answered out reply (toolkit old)).log) old.memory mid.memory → MovesTo (responded out reply (toolkit old)) old mid r
+  pub responded_stops : {X : Type 0} (r : Result X StoreFault) → IsErr r → StopsIn (answered out reply (toolkit old)).log old.memory mid.memory → MovesTo (responded out reply (toolkit old)) old mid r
   responded_stops (Ok x) err stop = cc err
   responded_stops (Err fault) err stop =
-      subst (λ (p : Passed). StopsAt (rows_of old.memory.table ∷ passed_rows p.log) old.memory mid.memory) (sym (responded_is out reply (toolkit old))) (first_stops (answered out reply (toolkit old)) driven old mid mid stop)
+      subst (λ (p : Passed). StopsIn p.log old.memory mid.memory) (sym (responded_is out reply (toolkit old))) (first_stops (answered out reply (toolkit old)) driven old mid mid stop)
 
   pub responded_leaves : {X B : Type 0} (cast between : List (Option B)) (r : Result X StoreFault) → IsErr r → StopsBehind (answered out reply (toolkit old)).log old mid cast between → TurnsTo (responded out reply (toolkit old)) old mid cast between r
   responded_leaves cast between r err stop =

@@ -1,5 +1,5 @@
 -- The acts that change nothing in the memory, and what the applet is told after any.
-use Rattle.std.proofs.Common.{◌≡◌, refl, sym, ap, ◌∙◌, subst, ℕ, Bool, true, false, cond, List, Option, Some, None, length, nat_le, option_map, IfSome, IfOk, Result, Ok, Err}
+use Rattle.std.proofs.Common.{◌≡◌, refl, sym, ap, ◌∙◌, subst, ℕ, Bool, true, false, cond, List, [], Option, Some, None, length, nat_le, option_map, IfSome, IfOk, Result, Ok, Err}
 use Rattle.store_form.specs.declared.store.StoreFault.{StoreFault}
 use Rattle.card_state.specs.Persistent.{Registration}
 use Rattle.card_state.specs.Memory.{Memory, held}
@@ -24,7 +24,9 @@ use Rattle.proactive_handler.specs.declared.endings.Next.TheVariants.{Told as Te
 use Rattle.proactive_handler.specs.declared.endings.Reply.TheVariants.{Refused as WasRefused}
 use Rattle.proactive_handler.specs.Acts.{timer_told, Told, Idle, Sent, next_of, after, TellsTimer, Stage, stage, works_at, with_these_rows, IsCarriedOut, Carries}
 use Rattle.proactive_handler.specs.Counting.{Counts}
+use Rattle.proactive_handler.specs.Written.{IsWritten}
 use Rattle.proactive_handler.proofs.CountingLemmas.{counts_none}
+use Rattle.proactive_handler.proofs.WrittenLemmas.{writes_none}
 use Rattle.proactive_handler.proofs.MovedLemmas.{has_rows, stands_still}
 
 -- ---- what is told
@@ -82,10 +84,10 @@ module _ (tell : TablesTellStates) (memory : Memory) (agrees : Agrees memory.mar
   still = stands_still (held memory) (rows_of memory.table) (has_rows tell memory.mark memory.told memory.table agrees)
 
   pub done_so : IsCarriedOut at Done before before Idle
-  done_so = record { works_are = refl; next_is = refl; stands = still; counts = counts_none memory memory refl }
+  done_so = record { works_are = refl; next_is = refl; stands = still; counts = counts_none memory memory refl; writes = writes_none [] memory memory refl refl }
 
   pub answer_so : (allows : Bool) → IsCarriedOut at (Answer allows) before before (Told Went)
-  answer_so allows = record { works_are = refl; next_is = refl; stands = still; counts = counts_none memory memory refl }
+  answer_so allows = record { works_are = refl; next_is = refl; stands = still; counts = counts_none memory memory refl; writes = writes_none [] memory memory refl refl }
 
   sent_if : (command : Proactive) (b : Bool) → is_admitted at timers command ≡ b → IsCarriedOut at (Send command) before before (cond b (Sent command) (Told Refused))
   sent_if command b is =
@@ -95,12 +97,17 @@ module _ (tell : TablesTellStates) (memory : Memory) (agrees : Agrees memory.mar
         works_are = sym (ap (λ (c : Carried). c.works) done ∙ same b);
         next_is = sym (ap (λ (c : Carried). next_of c.tells (admitted at timers (Send command))) done ∙ ap (λ (s : Option Proactive). next_of (cond b (ends (works_at before)) (answers Refused (works_at before))).tells s) sent ∙ follows b);
         stands = still;
-        counts = subst (λ (c : Carried). Counts (passed_rows (committed c)) memory memory) (sym done) (none b);
+        counts = subst (λ (c : Carried). Counts (passed_rows (committed at (Send command) c)) memory memory) (sym done) (none b);
+        writes = subst (λ (c : Carried). IsWritten (committed at (Send command) c) memory memory) (sym done) (nothing b);
       }
     where
-      none : (t : Bool) → Counts (passed_rows (committed (cond t (ends (works_at before)) (answers Refused (works_at before))))) memory memory
+      none : (t : Bool) → Counts (passed_rows (committed at (Send command) (cond t (ends (works_at before)) (answers Refused (works_at before))))) memory memory
       none true = counts_none memory memory refl
       none false = counts_none memory memory refl
+
+      nothing : (t : Bool) → IsWritten (committed at (Send command) (cond t (ends (works_at before)) (answers Refused (works_at before)))) memory memory
+      nothing true = writes_none [] memory memory refl refl
+      nothing false = writes_none [] memory memory refl refl
 
       same : (t : Bool) → (cond t (ends (works_at before)) (answers Refused (works_at before))).works ≡ (works_at before)
       same true = refl
@@ -124,7 +131,8 @@ module _ (tell : TablesTellStates) (memory : Memory) (agrees : Agrees memory.mar
     works_are = sym (ap (λ (c : Carried). c.works) is);
     next_is = sym (ap (λ (c : Carried). next_of c.tells (admitted at timers does)) is);
     stands = still;
-    counts = subst (λ (c : Carried). Counts (passed_rows (committed c)) memory memory) (sym is) (counts_none memory memory refl);
+    counts = subst (λ (c : Carried). Counts (passed_rows (committed at does c)) memory memory) (sym is) (counts_none memory memory refl);
+    writes = subst (λ (c : Carried). IsWritten (committed at does c) memory memory) (sym is) (writes_none [] memory memory refl refl);
   }
 
   take_is : (o : Option ℕ) → taking at.shelf (works_at before) o ≡ answers (timer_told o) (record (works_at before) { timers = given_to (record { 0 = at.shelf }) timers o })

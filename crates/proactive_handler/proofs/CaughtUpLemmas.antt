@@ -1,5 +1,5 @@
 -- Late triggers that are caught up with, one after the other.
-use Rattle.std.proofs.Common.{◌≡◌, refl, sym, ap, ◌∙◌, subst, ℕ, zero, suc, true, false, List, ◌∷◌, length, Some, None, Option, ◌≢◌, Result, Ok, Err, IsErr}
+use Rattle.std.proofs.Common.{◌≡◌, refl, sym, ap, ◌∙◌, subst, ℕ, zero, suc, true, false, List, length, Some, None, Option, ◌≢◌, Result, Ok, Err, IsErr}
 use Rattle.store_form.specs.declared.store.StoreFault.{StoreFault}
 use Rattle.store_form.specs.declared.store.StoreFault.TheVariants.{Failed}
 use Rattle.card_state.specs.declared.entries.Loaded.{Loaded}
@@ -13,7 +13,7 @@ use Rattle.toolkit_model.specs.Passing.{ToolkitState, Passed, unmoved, before, p
 use Rattle.toolkit_model.specs.Running.{run_of_row}
 use Rattle.toolkit_model.specs.Driving.{is_idle, with_session, running, first_idle, catching, caught_up, filled, with_next_command, driven}
 use Rattle.toolkit_model.proofs.LateTriggerLemmas.{late_asks}
-use Rattle.proactive_handler.specs.Runs.{StopsAt}
+use Rattle.proactive_handler.specs.Runs.{StopsIn}
 use Rattle.proactive_handler.specs.Boxes.{IsSameBox, AreForOthers}
 use Rattle.proactive_handler.specs.Serving.{IsSessionServed}
 use Rattle.proactive_handler.specs.Steps.{toolkit, Scene, IsDone, MovesTo}
@@ -83,11 +83,11 @@ module _ (count fuel : ℕ) (old : Scene) (left : SessionState) (trigger : LateT
   one_moves r moves =
       since_moves one old early mid r refl (subst (λ (s : SessionState). MovesTo (run_of_row trigger.shelf (Event trigger.code trigger.body) false (toolkit (record old { session = s }))) early mid r) is moves)
 
-  pub one_stops : {X : Type 0} (r : Result X StoreFault) → IsErr r → StopsAt (rows_of old.memory.table ∷ passed_rows (run_of_row trigger.shelf (Event trigger.code trigger.body) false (toolkit early)).log) old.memory mid.memory
+  pub one_stops : {X : Type 0} (r : Result X StoreFault) → IsErr r → StopsIn (run_of_row trigger.shelf (Event trigger.code trigger.body) false (toolkit early)).log old.memory mid.memory
       → MovesTo (caught_up count (toolkit old)) old mid r
   one_stops (Ok x) err stop = cc err
   one_stops (Err fault) err stop =
-      subst (λ (p : Passed). StopsAt (rows_of old.memory.table ∷ passed_rows p.log) old.memory mid.memory) (sym caught_is) (first_stops one (caught_up fuel) old mid mid (one_moves {X = ℕ} (Err fault) stop))
+      subst (λ (p : Passed). StopsIn p.log old.memory mid.memory) (sym caught_is) (first_stops one (caught_up fuel) old mid mid (one_moves {X = ℕ} (Err fault) stop))
 
   one_turns : {X B : Type 0} (cast left' : List (Option B)) (r : Result X StoreFault) → TurnsTo (run_of_row trigger.shelf (Event trigger.code trigger.body) false (toolkit early)) early mid cast left' r → TurnsTo one old mid cast left' r
   one_turns cast left' r leaves =
@@ -119,10 +119,10 @@ unfolding with_next_command
 settled_is state = refl
 
 module _ (count : ℕ) (old mid : Scene) (count_is : count ≡ length old.session.late) where
-  pub driven_stops : {X : Type 0} (r : Result X StoreFault) → IsErr r → StopsAt (rows_of old.memory.table ∷ passed_rows (caught_up count (toolkit old)).log) old.memory mid.memory → MovesTo (driven (toolkit old)) old mid r
+  pub driven_stops : {X : Type 0} (r : Result X StoreFault) → IsErr r → StopsIn (caught_up count (toolkit old)).log old.memory mid.memory → MovesTo (driven (toolkit old)) old mid r
   driven_stops (Ok x) err stop = cc err
   driven_stops (Err fault) err stop =
-      subst (λ (p : Passed). StopsAt (rows_of old.memory.table ∷ passed_rows p.log) old.memory mid.memory) (sym (driven_is count (toolkit old) count_is))
+      subst (λ (p : Passed). StopsIn p.log old.memory mid.memory) (sym (driven_is count (toolkit old) count_is))
       (first_stops (caught_up count (toolkit old)) (λ later. unmoved (with_next_command later)) old mid mid stop)
 
   pub driven_leaves : {X B : Type 0} (cast between : List (Option B)) (r : Result X StoreFault) → IsErr r → StopsBehind (caught_up count (toolkit old)).log old mid cast between → TurnsTo (driven (toolkit old)) old mid cast between r

@@ -19,7 +19,7 @@ use Rattle.toolkit_model.specs.Driving.{is_idle, with_session, told_if, given_if
 use Rattle.proactive_handler.specs.Boxes.{IsSameBox}
 use Rattle.proactive_handler.specs.Serving.{HasPlaces, triggered_one}
 use Rattle.proactive_handler.specs.Steps.{Scene, toolkit, IsDone, MovesTo}
-use Rattle.proactive_handler.specs.Runs.{StopsAt}
+use Rattle.proactive_handler.specs.Runs.{StopsIn}
 use Rattle.proactive_handler.proofs.StopsAtLemmas.{first_stops, second_stops, both_done}
 use Rattle.proactive_handler.specs.Reached.{Tells, StopsBehind, TurnsTo, HasNoTurn}
 use Rattle.proactive_handler.proofs.ReachedLemmas.{noted_turns, first_reached, second_reached, both_leave}
@@ -82,16 +82,16 @@ module _ (code : ℕ) (body : List ℕ) (shelf : ℕ) (state : ToolkitState) whe
 -- ---- one after the other
 
 module _ {X : Type 0} (step : X → ToolkitState → Passed) (x : X) (others all : List X) (is : all ≡ x ∷ others) (old mid : Scene) where
-  pub turn_stops : {Y : Type 0} (r : Result Y StoreFault) → IsErr r → StopsAt (rows_of old.memory.table ∷ passed_rows (step x (toolkit old)).log) old.memory mid.memory → MovesTo (in_turn step all (toolkit old)) old mid r
+  pub turn_stops : {Y : Type 0} (r : Result Y StoreFault) → IsErr r → StopsIn (step x (toolkit old)).log old.memory mid.memory → MovesTo (in_turn step all (toolkit old)) old mid r
   turn_stops (Ok y) err stop = cc err
   turn_stops (Err fault) err stop =
-      subst (λ (xs : List X). StopsAt (rows_of old.memory.table ∷ passed_rows (in_turn step xs (toolkit old)).log) old.memory mid.memory) (sym is) (first_stops (step x (toolkit old)) (in_turn step others) old mid mid stop)
+      subst (λ (xs : List X). StopsIn (in_turn step xs (toolkit old)).log old.memory mid.memory) (sym is) (first_stops (step x (toolkit old)) (in_turn step others) old mid mid stop)
 
-  pub turns_stop : {Y : Type 0} (new : Scene) (r : Result Y StoreFault) → IsErr r → IsDone (step x (toolkit old)) old mid → StopsAt (rows_of mid.memory.table ∷ passed_rows (in_turn step others (toolkit mid)).log) mid.memory new.memory
+  pub turns_stop : {Y : Type 0} (new : Scene) (r : Result Y StoreFault) → IsErr r → IsDone (step x (toolkit old)) old mid → StopsIn (in_turn step others (toolkit mid)).log mid.memory new.memory
       → MovesTo (in_turn step all (toolkit old)) old new r
   turns_stop new (Ok y) err done stop = cc err
   turns_stop new (Err fault) err done stop =
-      subst (λ (xs : List X). StopsAt (rows_of old.memory.table ∷ passed_rows (in_turn step xs (toolkit old)).log) old.memory new.memory) (sym is) (second_stops (step x (toolkit old)) (in_turn step others) old mid new done stop)
+      subst (λ (xs : List X). StopsIn (in_turn step xs (toolkit old)).log old.memory new.memory) (sym is) (second_stops (step x (toolkit old)) (in_turn step others) old mid new done stop)
 
   pub turns_done : (new : Scene) → IsDone (step x (toolkit old)) old mid → IsDone (in_turn step others (toolkit mid)) mid new → IsDone (in_turn step all (toolkit old)) old new
   turns_done new one two = subst (λ (xs : List X). IsDone (in_turn step xs (toolkit old)) old new) (sym is) (both_done (step x (toolkit old)) (in_turn step others) old mid new one two)

@@ -6,6 +6,7 @@ mod CarriedLemmas
 mod CarriesLemmas
 mod CaughtUpLemmas
 pub mod CountingLemmas
+mod CodesOnLemmas
 mod EventsLemmas
 mod FilledLemmas
 mod FirstIdleLemmas
@@ -29,3 +30,4 @@ pub mod StopsAtLemmas
 mod TurnsToLemmas
 mod WantedLemmas
 mod WithTheseRowsLemmas
+pub mod WrittenLemmas

@@ -4,6 +4,7 @@ use Rattle.std.specs.Option.{option_or}
 use Rattle.std.specs.List.{last_or}
 use Rattle.std.proofs.lemmas.List.{map-set, get_or-map}
 use Rattle.std.proofs.lemmas.List.Elements.{filter_map-append}
+use Rattle.uicc_types.specs.Counts.{raised_by}
 use Rattle.store_form.specs.declared.store.StoreFault.{StoreFault}
 use Rattle.card_state.specs.declared.entries.Loaded.{Loaded}
 use Rattle.card_state.specs.Memory.{Memory, held}
@@ -17,7 +18,9 @@ use Rattle.toolkit_model.specs.Commands.{answer_in, last_answer}
 use Rattle.proactive_handler.specs.Acts.{with_these_rows}
 use Rattle.proactive_handler.specs.Counting.{Counts}
 use Rattle.proactive_handler.proofs.CountingLemmas.{counts_none}
-use Rattle.proactive_handler.specs.Runs.{StopsAt}
+use Rattle.proactive_handler.proofs.WrittenLemmas.{writes_none, writes_then, partly_then}
+use Rattle.proactive_handler.specs.Written.{IsWritten}
+use Rattle.proactive_handler.specs.Runs.{StopsAt, StopsIn}
 use Rattle.proactive_handler.specs.Steps.{Scene, toolkit, IsDone, MovesTo}
 use Rattle.proactive_handler.specs.Boxes.{kinds_of}
 use Rattle.proactive_handler.proofs.StopsAtLemmas.{last_append, passed_append}
@@ -49,6 +52,7 @@ still_done passed old new has nothing rows state same = record {
   stands = ap (λ (m : Memory). held m) same ∙ stands_still (held old.memory) (rows_of old.memory.table) has ∙ ap (λ (r : List Registration). option_map (with_these_rows r) (held old.memory)) (sym rows);
   last_is = ap (last_or (Some (rows_of old.memory.table))) nothing ∙ ap (λ (r : List Registration). Some r) (sym rows);
   counts = subst (λ (p : List (List Registration)). Counts p old.memory new.memory) (sym nothing) (counts_none old.memory new.memory same);
+  writes = writes_none passed.log old.memory new.memory nothing same;
 }
 
 -- ---- the last answer to call control
@@ -105,8 +109,9 @@ since_moves passed old early new (Ok result) same done = record {
   stands = done.stands ∙ ap (λ (m : Memory). option_map (with_these_rows passed.state.rows) (held m)) same;
   last_is = ap (λ (m : Memory). last_or (Some (rows_of m.table)) (passed_rows passed.log)) (sym same) ∙ done.last_is;
   counts = subst (λ (m : Memory). Counts (passed_rows passed.log) m new.memory) same done.counts;
+  writes = subst (λ (m : Memory). IsWritten passed.log m new.memory) same done.writes;
 }
-since_moves passed old early new (Err fault) same stop = subst (λ (m : Memory). StopsAt (rows_of m.table ∷ passed_rows passed.log) m new.memory) same stop
+since_moves passed old early new (Err fault) same stop = subst (λ (m : Memory). StopsIn passed.log m new.memory) same stop
 
 pub noted_moves : {X : Type 0} (log : List Happening) (passed : Passed) (old new : Scene) (r : Result X StoreFault) → passed_rows log ≡ [] → MovesTo passed old new r → MovesTo (noting log passed) old new r
 noted_moves log passed old new (Ok result) none done =
@@ -115,7 +120,11 @@ noted_moves log passed old new (Ok result) none done =
       stands = done.stands;
       last_is = ap (last_or (Some (rows_of old.memory.table))) rows ∙ done.last_is;
       counts = subst (λ (rows : List (List Registration)). Counts rows old.memory new.memory) (sym rows) done.counts;
+      writes = writes_then log passed.log old.memory old.memory new.memory (writes_none log old.memory old.memory none refl) done.writes;
     }
-noted_moves log passed old new (Err fault) none stop =
-    subst (λ (rows : List (List Registration)). StopsAt (rows_of old.memory.table ∷ rows) old.memory new.memory)
-    (sym (passed_append log passed.log ∙ ap (λ (rows : List (List Registration)). rows ++ passed_rows passed.log) none)) stop
+noted_moves log passed old new (Err fault) none stop = record {
+  rows = subst (λ (rows : List (List Registration)). StopsAt (rows_of old.memory.table ∷ rows) old.memory new.memory)
+      (sym (passed_append log passed.log ∙ ap (λ (rows : List (List Registration)). rows ++ passed_rows passed.log) none)) stop.rows;
+  writes = partly_then log passed.log old.memory old.memory new.memory (writes_none log old.memory old.memory none refl)
+      (ap (λ (rows : List (List Registration)). raised_by (length rows) old.memory.commits) (sym none)) stop.writes;
+}

@@ -32,9 +32,10 @@ module _ {B : Type 0} (first : Passed) (next : ToolkitState → Passed) (old mid
   pub first_reached : StopsBehind first.log old mid cast between → StopsBehind (before first next).log old mid cast between
   first_reached stop = record {
     reached = stop.reached;
+    change = stop.change;
     rows = stop.rows;
     rest = stop.rest ++ (next first.state).log;
-    split = ap (λ (log : List Happening). log ++ (next first.state).log) stop.split ∙ append_assoc stop.reached (Committed stop.rows ∷ stop.rest) (next first.state).log;
+    split = ap (λ (log : List Happening). log ++ (next first.state).log) stop.split ∙ append_assoc stop.reached (Committed stop.change stop.rows ∷ stop.rest) (next first.state).log;
     commits = stop.commits;
     untold = stop.untold;
   }
@@ -50,9 +51,10 @@ module _ {B : Type 0} (first : Passed) (next : ToolkitState → Passed) (old mid
         let stop : StopsBehind (next first.state).log mid new between left = subst (λ (s : ToolkitState). StopsBehind (next s).log mid new between left) one.state_is later in
         record {
           reached = first.log ++ stop.reached;
+          change = stop.change;
           rows = stop.rows;
           rest = stop.rest;
-          split = ap (λ (log : List Happening). first.log ++ log) stop.split ∙ sym (append_assoc first.log stop.reached (Committed stop.rows ∷ stop.rest));
+          split = ap (λ (log : List Happening). first.log ++ log) stop.split ∙ sym (append_assoc first.log stop.reached (Committed stop.change stop.rows ∷ stop.rest));
           commits = stop.commits ∙ ap (raised_by (length (passed_rows stop.reached))) one.counts.commits
               ∙ raised_then (passed_rows first.log) (passed_rows stop.reached) old.memory.commits
               ∙ ap (λ (rows : List (List Registration)). raised_by (length rows) old.memory.commits) (sym (passed_append first.log stop.reached));
@@ -76,6 +78,7 @@ module _ {X B : Type 0} (cast left : List (Option B)) where
   since_turns passed old early new (Ok result) same leaves = leaves
   since_turns passed old early new (Err fault) same stop = record {
     reached = stop.reached;
+    change = stop.change;
     rows = stop.rows;
     rest = stop.rest;
     split = stop.split;
@@ -88,9 +91,10 @@ module _ {X B : Type 0} (cast left : List (Option B)) where
   noted_turns log passed old new (Err fault) nothing stop =
       let rows = passed_append log stop.reached ∙ ap (λ (rows : List (List Registration)). rows ++ passed_rows stop.reached) nothing in record {
         reached = log ++ stop.reached;
+        change = stop.change;
         rows = stop.rows;
         rest = stop.rest;
-        split = ap (λ (after : List Happening). log ++ after) stop.split ∙ sym (append_assoc log stop.reached (Committed stop.rows ∷ stop.rest));
+        split = ap (λ (after : List Happening). log ++ after) stop.split ∙ sym (append_assoc log stop.reached (Committed stop.change stop.rows ∷ stop.rest));
         commits = stop.commits ∙ ap (λ (passed : List (List Registration)). raised_by (length passed) old.memory.commits) (sym rows);
         untold = λ shelf none. stop.untold shelf (no_later shelf log stop.reached none);
       }

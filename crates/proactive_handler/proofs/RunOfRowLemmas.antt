@@ -2,6 +2,7 @@
 use Rattle.std.proofs.Common.{◌≡◌, refl, sym, ap, ◌∙◌, subst, ℕ, zero, suc, Bool, true, false, List, [], ◌∷◌, cond, Option, Some, None, option_map}
 use Rattle.std.specs.List.{last_or}
 use Rattle.std.proofs.lemmas.List.Elements.{filter_map-append}
+use Rattle.card_state.specs.Changes.{Change}
 use Rattle.card_state.specs.Memory.{Memory, held}
 use Rattle.card_state.specs.Persistent.{Registration}
 use Rattle.card_state.specs.States.{rows_of}
@@ -13,20 +14,22 @@ use Rattle.applet_trait.specs.Turns.{act}
 use Rattle.toolkit_model.specs.Sessions.{SessionState}
 use Rattle.toolkit_model.specs.Passing.{ToolkitState, Committed, Passed, rows_in, passed_rows}
 use Rattle.toolkit_model.specs.Commands.{last_answer}
+use Rattle.toolkit_model.specs.Changes.{change_by}
 use Rattle.toolkit_model.specs.Running.{Setting, Works, Ran, carried, admitted, committed, going_on, run_on, most_acts, setting_of, works_of, sending, begins_call, with_mind, mind_on, ended_in, run_of_mind, run_of_row}
 use Rattle.proactive_handler.specs.declared.settings.Setting.{Setting as GivenSetting}
 use Rattle.proactive_handler.specs.Acts.{stage, works_at, with_these_rows}
 use Rattle.proactive_handler.specs.Counting.{Counts}
-use Rattle.proactive_handler.specs.Runs.{run_of, Ended, StopsAt, IsRun, IsCut}
+use Rattle.proactive_handler.specs.Written.{IsWritten}
+use Rattle.proactive_handler.specs.Runs.{run_of, Ended, StopsIn, IsRun, IsCut}
 use Rattle.proactive_handler.specs.Steps.{toolkit, Scene, scene, IsDone}
 use Rattle.proactive_handler.proofs.RunOnLemmas.{rests}
 use Rattle.proactive_handler.proofs.StopsAtLemmas.{last_append}
 
 -- ---- the rows after a run are those of its last commit
 
-last_of_commit : (moved : Bool) (rows after : List Registration) → (moved ≡ false → after ≡ rows) → last_or (Some rows) (passed_rows (cond moved (Committed after ∷ []) [])) ≡ Some after
-last_of_commit true rows after same = refl
-last_of_commit false rows after same = ap (λ (r : List Registration). Some r) (sym (same refl))
+last_of_commit : (moved : Bool) (change : Change) (rows after : List Registration) → (moved ≡ false → after ≡ rows) → last_or (Some rows) (passed_rows (cond moved (Committed change after ∷ []) [])) ≡ Some after
+last_of_commit true change rows after same = refl
+last_of_commit false change rows after same = ap (λ (r : List Registration). Some r) (sym (same refl))
 
 going_last : (works : Works) (sent : Option Proactive) (next : Stimulus → Works → Ran) (tells : Option Stimulus)
     → ((stimulus : Stimulus) → last_or (Some works.rows) (passed_rows (next stimulus works).log) ≡ Some (next stimulus works).works.rows)
@@ -42,9 +45,9 @@ run_last (suc fuel) at stimulus works =
     let turned : Works = record works { mind = made.next } in
     let done = carried at made.does turned in
     let rest = going_on done.works (admitted at turned.timers made.does) (run_on fuel at) done.tells in
-    let first : last_or (Some works.rows) (passed_rows (committed done)) ≡ Some done.works.rows = last_of_commit done.is_committed works.rows done.works.rows (rests at made.does turned) in
-    ap (last_or (Some works.rows)) (filter_map-append rows_in (committed done) rest.log)
-    ∙ last_append (Some works.rows) (passed_rows (committed done)) (passed_rows rest.log)
+    let first : last_or (Some works.rows) (passed_rows (committed at made.does done)) ≡ Some done.works.rows = last_of_commit done.is_committed (change_by at.shelf made.does done.works.rows) works.rows done.works.rows (rests at made.does turned) in
+    ap (last_or (Some works.rows)) (filter_map-append rows_in (committed at made.does done) rest.log)
+    ∙ last_append (Some works.rows) (passed_rows (committed at made.does done)) (passed_rows rest.log)
     ∙ ap (λ (o : Option (List Registration)). last_or o (passed_rows rest.log)) first
     ∙ going_last done.works (admitted at turned.timers made.does) (run_on fuel at) done.tells (λ next. run_last fuel at next done.works)
 
@@ -82,13 +85,14 @@ module _ (shelf : ℕ) (stimulus : Stimulus) (is_resumed : Bool) (old : Scene) (
           stands = run.stands ∙ ap (λ (r : List Registration). option_map (with_these_rows r) (held old.memory)) rows_are;
           last_is = run_last most_acts (setting_of shelf stimulus (toolkit old)) stimulus (works_of mind (toolkit old));
           counts = subst (λ (r : Ran). Counts (passed_rows r.log) old.memory memory') same run.counts;
+          writes = subst (λ (r : Ran). IsWritten r.log old.memory memory') same run.writes;
         })
 
     pub run_stopped : (before after : Owners) → IsCut made (stage old.memory before mind) (stage memory' after mind')
-        → StopsAt (rows_of old.memory.table ∷ passed_rows (run_of_row shelf stimulus is_resumed (toolkit old)).log) old.memory memory'
+        → StopsIn (run_of_row shelf stimulus is_resumed (toolkit old)).log old.memory memory'
     run_stopped before after cut =
-        subst (λ (p : Passed). StopsAt (rows_of old.memory.table ∷ passed_rows p.log) old.memory memory') (sym run_is)
-        (subst (λ (r : Ran). StopsAt (rows_of old.memory.table ∷ passed_rows r.log) old.memory memory') same cut.stops)
+        subst (λ (p : Passed). StopsIn p.log old.memory memory') (sym run_is)
+        (subst (λ (r : Ran). StopsIn r.log old.memory memory') same cut.stops)
 
     pub run_answer : (answer : Option Bool) → answer ≡ last_answer made.log → answer ≡ last_answer (run_of_row shelf stimulus is_resumed (toolkit old)).log
     run_answer answer so = so ∙ ap (λ (r : Ran). last_answer r.log) same ∙ sym (ap (λ (p : Passed). last_answer p.log) run_is)

@@ -7,6 +7,7 @@ use Rattle.std.proofs.lemmas.Option.{cond_some}
 use Rattle.std.proofs.lemmas.List.Elements.{Contains-append_right, filter_map-append}
 use Rattle.uicc_types.specs.Counts.{raised_by}
 use Rattle.store_form.specs.declared.store.StoreFault.{StoreFault}
+use Rattle.card_state.specs.Changes.{Change}
 use Rattle.card_state.specs.Memory.{Memory, held}
 use Rattle.card_state.specs.Persistent.{Registration, Persistent}
 use Rattle.card_state.specs.States.{rows_of}
@@ -26,6 +27,7 @@ use Rattle.applet_trait.specs.Turns.{act}
 use Rattle.toolkit_model.specs.declared.faults.RowFault.{RowFault}
 use Rattle.toolkit_model.specs.Registry.{registers, deregisters, with_code, without_code, with_kept}
 use Rattle.toolkit_model.specs.Passing.{ShelfTurn, Happening, Committed, rows_in, passed_rows, turn_in, turns}
+use Rattle.toolkit_model.specs.Changes.{change_by}
 use Rattle.toolkit_model.specs.Running.{Setting, Works, Carried, Ran, ends, answers, commits, changing, taking, carried, admitted, is_admitted, is_cards_own, is_short, is_within_rights, is_held_by, committed, noted, going_on, logged, carrying, awakened, run_on}
 use Rattle.toolkit_model.specs.Orderly.{CanBeSent}
 use Rattle.toolkit_model.specs.Commands.{answer_in, last_answer}
@@ -33,7 +35,9 @@ use Rattle.proactive_handler.specs.declared.endings.RunEnd.{RunEnd}
 use Rattle.proactive_handler.specs.Acts.{After, Told, Sent, next_of, Stage, works_at, with_these_rows, IsCarriedOut, IsActStopped}
 use Rattle.proactive_handler.specs.Runs.{answer_of, Ended, with_each_rows, StopsAt, IsRun, IsCut, RunsTo}
 use Rattle.proactive_handler.specs.Counting.{Counts}
+use Rattle.proactive_handler.specs.Written.{IsWritten, IsPartlyWritten}
 use Rattle.proactive_handler.proofs.CountingLemmas.{counts_none, counts_then}
+use Rattle.proactive_handler.proofs.WrittenLemmas.{writes_none, writes_then, partly_first, partly_then}
 use Rattle.proactive_handler.proofs.StopsAtLemmas.{stands_then, stops_later}
 use Rattle.proactive_handler.specs.Moved.{HasRowsOf}
 use Rattle.proactive_handler.proofs.MovedLemmas.{last_is_or, stands_still}
@@ -76,18 +80,19 @@ rests at (Answer allows) works = λ is. refl
 abbrev first_rows : Bool → List Registration → List (List Registration)
 first_rows moved rows = cond moved (rows ∷ []) []
 
-rows_of_commit : (moved : Bool) (rows : List Registration) → passed_rows (cond moved (Committed rows ∷ []) []) ≡ first_rows moved rows
-rows_of_commit true rows = refl
-rows_of_commit false rows = refl
+rows_of_commit : (moved : Bool) (change : Change) (rows : List Registration) → passed_rows (cond moved (Committed change rows ∷ []) []) ≡ first_rows moved rows
+rows_of_commit true change rows = refl
+rows_of_commit false change rows = refl
 
-turns_of_commit : (moved : Bool) (rows : List Registration) → turns (cond moved (Committed rows ∷ []) []) ≡ []
-turns_of_commit true rows = refl
-turns_of_commit false rows = refl
+turns_of_commit : (moved : Bool) (change : Change) (rows : List Registration) → turns (cond moved (Committed change rows ∷ []) []) ≡ []
+turns_of_commit true change rows = refl
+turns_of_commit false change rows = refl
 
 rows_noted : (at : Setting) (stimulus : Stimulus) (does : Act) (timers : Owners) (done : Carried) (rest : List Happening)
     → passed_rows (noted at stimulus does timers done ++ rest) ≡ first_rows done.is_committed done.works.rows ++ passed_rows rest
 rows_noted at stimulus does timers done rest =
-    filter_map-append rows_in (committed done) rest ∙ ap (λ (first : List (List Registration)). first ++ passed_rows rest) (rows_of_commit done.is_committed done.works.rows)
+    filter_map-append rows_in (committed at does done) rest
+    ∙ ap (λ (first : List (List Registration)). first ++ passed_rows rest) (rows_of_commit done.is_committed (change_by at.shelf does done.works.rows) done.works.rows)
 
 answer_told : (shelf : ℕ) (stimulus : Stimulus) (does : Act) (b : Bool) → answer_in (record { shelf = shelf; stimulus = stimulus; act = does; is_admitted = b }) ≡ answer_of does
 answer_told shelf stimulus Done b = refl
@@ -113,7 +118,8 @@ answer_noted at stimulus does timers done rest =
     let turn : ShelfTurn = record { shelf = at.shelf; stimulus = stimulus; act = does; is_admitted = is_some (admitted at timers does) } in
     let told : turns (noted at stimulus does timers done ++ rest) ≡ turn ∷ turns rest =
     ap (λ (later : List ShelfTurn). turn ∷ later)
-    (filter_map-append turn_in (committed done) rest ∙ ap (λ (first : List ShelfTurn). first ++ turns rest) (turns_of_commit done.is_committed done.works.rows)) in
+    (filter_map-append turn_in (committed at does done) rest
+    ∙ ap (λ (first : List ShelfTurn). first ++ turns rest) (turns_of_commit done.is_committed (change_by at.shelf does done.works.rows) done.works.rows)) in
     ap (λ (all : List ShelfTurn). last_or None (filter_map answer_in all)) told ∙ last_with (answer_in turn) (filter_map answer_in (turns rest))
     ∙ ap (λ (first : Option Bool). option_or (last_answer rest) first) (answer_told at.shelf stimulus does (is_some (admitted at timers does)))
 
@@ -245,8 +251,8 @@ module _ (at : Setting) (stimulus : Stimulus) (acts fuel : ℕ) (is_acts : acts 
       ∙ ap (λ (a : Act). carrying at stimulus a (record (works_at old) { mind = (act old.mind stimulus).next }) (run_on fuel at)) (sym acted)
       ∙ ap (λ (m : AppletState). carrying at stimulus does (record (works_at old) { mind = m }) (run_on fuel at)) (sym moved)
 
-  rows_after : (rest : List Happening) → passed_rows (log_first ++ rest) ≡ passed_rows (committed done) ++ passed_rows rest
-  rows_after rest = filter_map-append rows_in (committed done) rest
+  rows_after : (rest : List Happening) → passed_rows (log_first ++ rest) ≡ passed_rows (committed at does done) ++ passed_rows rest
+  rows_after rest = filter_map-append rows_in (committed at does done) rest
 
   run_so : (tells : Option Stimulus) → done.tells ≡ tells → run_on acts at stimulus (works_at old) ≡ logged log_first (rest_after tells)
   run_so tells is = run_is ∙ ap (λ (t : Option Stimulus). logged log_first (rest_after t)) is
@@ -271,7 +277,8 @@ module _ (at : Setting) (stimulus : Stimulus) (acts fuel : ℕ) (is_acts : acts 
           answer_is = answer ∙ sym (answer_noted at stimulus does old.timers done []) ∙ sym (ap (λ (r : Ran). last_answer r.log) is);
           stands = out.stands;
           counts = subst (λ (rows : List (List Registration)). Counts rows old.memory new.memory) (sym (ap (λ (r : Ran). passed_rows r.log) is ∙ rows_after []))
-              (counts_then (passed_rows (committed done)) [] old.memory new.memory new.memory out.counts (counts_none new.memory new.memory refl));
+              (counts_then (passed_rows (committed at does done)) [] old.memory new.memory new.memory out.counts (counts_none new.memory new.memory refl));
+          writes = subst (λ (r : Ran). IsWritten r.log old.memory new.memory) (sym is) (writes_then log_first [] old.memory new.memory new.memory out.writes (writes_none [] new.memory new.memory refl refl));
         }
 
   -- a fault stopped the act
@@ -282,14 +289,17 @@ module _ (at : Setting) (stimulus : Stimulus) (acts fuel : ℕ) (is_acts : acts 
       ∙ ap (λ (b : Bool). first_rows b done.works.rows ++ passed_rows (rest_after done.tells).log) stop.is_commit in
       record {
         passes = subst (λ (rows : List (List Registration)). PassesOne (held old.memory) (held new.memory) (with_each_rows rows)) (sym passed) (first_passes (held old.memory) (held new.memory) done.works.rows (passed_rows (rest_after done.tells).log) stop.stands);
-        stops = subst (λ (rows : List (List Registration)). StopsAt ((rows_of old.memory.table) ∷ rows) old.memory new.memory) (sym passed) (record {
-          place = 0;
-          one_more = omega arith;
-          table_is = sym (ap (λ (w : Works). w.rows) stop.works_are);
-          stands = ⊎_elim {C = ((held new.memory) ≡ option_map (with_these_rows (rows_of old.memory.table)) (held old.memory)) ⊎ ((held new.memory) ≡ option_map (with_these_rows done.works.rows) (held old.memory))}
-              (λ before. inl (before ∙ stands_still (held old.memory) (rows_of old.memory.table) has)) inr stop.stands;
-          commits = stop.commits;
-        });
+        stops = record {
+          rows = subst (λ (rows : List (List Registration)). StopsAt ((rows_of old.memory.table) ∷ rows) old.memory new.memory) (sym passed) (record {
+            place = 0;
+            one_more = omega arith;
+            table_is = sym (ap (λ (w : Works). w.rows) stop.works_are);
+            stands = ⊎_elim {C = ((held new.memory) ≡ option_map (with_these_rows (rows_of old.memory.table)) (held old.memory)) ⊎ ((held new.memory) ≡ option_map (with_these_rows done.works.rows) (held old.memory))}
+                (λ before. inl (before ∙ stands_still (held old.memory) (rows_of old.memory.table) has)) inr stop.stands;
+            commits = stop.commits;
+          });
+          writes = subst (λ (r : Ran). IsPartlyWritten r.log old.memory new.memory) (sym run_is) (partly_first log_first (rest_after done.tells).log old.memory new.memory stop.writes);
+        };
       }
 
   -- the run goes on
@@ -310,7 +320,8 @@ module _ (at : Setting) (stimulus : Stimulus) (acts fuel : ℕ) (is_acts : acts 
           ∙ sym (ap (λ (r : Ran). last_answer r.log) goes_so);
       stands = stands_then (held old.memory) (held mid.memory) (held new.memory) (rows_of mid.memory.table) (rows_of new.memory.table) out.stands run.stands;
       counts = subst (λ (rows : List (List Registration)). Counts rows old.memory new.memory) (sym (ap (λ (r : Ran). passed_rows r.log) goes_so ∙ rows_after (run_on fuel at told (works_at mid)).log))
-          (counts_then (passed_rows (committed done)) (passed_rows (run_on fuel at told (works_at mid)).log) old.memory mid.memory new.memory out.counts run.counts);
+          (counts_then (passed_rows (committed at does done)) (passed_rows (run_on fuel at told (works_at mid)).log) old.memory mid.memory new.memory out.counts run.counts);
+      writes = subst (λ (r : Ran). IsWritten r.log old.memory new.memory) (sym goes_so) (writes_then log_first (run_on fuel at told (works_at mid)).log old.memory mid.memory new.memory out.writes run.writes);
     }
 
     pub cut_later : HasRowsOf (held old.memory) (rows_of old.memory.table) → IsCut (run_on fuel at told (works_at mid)) mid new → IsCut (run_on acts at stimulus (works_at old)) old new
@@ -322,12 +333,16 @@ module _ (at : Setting) (stimulus : Stimulus) (acts fuel : ℕ) (is_acts : acts 
         ap (λ (r : Ran). passed_rows r.log) goes_so ∙ rows_noted at stimulus does old.timers done (run_on fuel at told (works_at mid)).log
         ∙ ap (λ (rows : List Registration). first_rows done.is_committed rows ++ later) (sym after) in
         let counted : mid.memory.commits ≡ raised_by (length (first_rows done.is_committed (rows_of mid.memory.table))) old.memory.commits =
-        out.counts.commits ∙ ap (λ (rows : List (List Registration)). raised_by (length rows) old.memory.commits) (rows_of_commit done.is_committed done.works.rows ∙ ap (first_rows done.is_committed) (sym after)) in
+        out.counts.commits ∙ ap (λ (rows : List (List Registration)). raised_by (length rows) old.memory.commits) (rows_of_commit done.is_committed (change_by at.shelf does done.works.rows) done.works.rows ∙ ap (first_rows done.is_committed) (sym after)) in
         record {
           passes = subst (λ (rows : List (List Registration)). PassesOne (held old.memory) (held new.memory) (with_each_rows rows)) (sym passed)
               (later_passes done.is_committed (held old.memory) (held mid.memory) (held new.memory) (rows_of old.memory.table) (rows_of mid.memory.table) later has same out.stands cut.passes);
-          stops = subst (λ (rows : List (List Registration)). StopsAt ((rows_of old.memory.table) ∷ rows) old.memory new.memory) (sym passed)
-              (later_stops done.is_committed (rows_of old.memory.table) (rows_of mid.memory.table) later old.memory mid.memory new.memory same out.stands counted cut.stops);
+          stops = record {
+            rows = subst (λ (rows : List (List Registration)). StopsAt ((rows_of old.memory.table) ∷ rows) old.memory new.memory) (sym passed)
+                (later_stops done.is_committed (rows_of old.memory.table) (rows_of mid.memory.table) later old.memory mid.memory new.memory same out.stands counted cut.stops.rows);
+            writes = subst (λ (r : Ran). IsPartlyWritten r.log old.memory new.memory) (sym goes_so)
+                (partly_then log_first (run_on fuel at told (works_at mid)).log old.memory mid.memory new.memory out.writes out.counts.commits cut.stops.writes);
+          };
         }
 
 -- no act is left: the applet wakes
@@ -344,6 +359,7 @@ woke at stimulus acts old new ending none has same works sent answer =
       answer_is = answer ∙ sym (ap (λ (r : Ran). last_answer r.log) is);
       stands = ap (λ (m : Memory). held m) same ∙ stands_still (held old.memory) (rows_of old.memory.table) has ∙ ap (λ (w : Works). option_map (with_these_rows w.rows) (held old.memory)) (sym works);
       counts = subst (λ (rows : List (List Registration)). Counts rows old.memory new.memory) (sym (ap (λ (r : Ran). passed_rows r.log) is)) (counts_none old.memory new.memory same);
+      writes = subst (λ (r : Ran). IsWritten r.log old.memory new.memory) (sym is) (writes_none [] old.memory new.memory refl same);
     }
 
 -- a run that a fault stopped

@@ -11,9 +11,11 @@ use Rattle.card_state.specs.States.{rows_of}
 use Rattle.toolkit_model.specs.Passing.{ToolkitState, Happening, Passed, noting, before, rows_in, passed_rows}
 use Rattle.proactive_handler.specs.Acts.{with_these_rows}
 use Rattle.proactive_handler.specs.Counting.{Counts}
+use Rattle.proactive_handler.specs.Written.{IsPartlyWritten}
 use Rattle.proactive_handler.proofs.CountingLemmas.{counts_then}
-use Rattle.proactive_handler.specs.Runs.{StopsAt}
+use Rattle.proactive_handler.specs.Runs.{StopsAt, StopsIn}
 use Rattle.proactive_handler.specs.Steps.{Scene, toolkit, IsDone, MovesTo}
+use Rattle.proactive_handler.proofs.WrittenLemmas.{writes_then, partly_first, partly_then}
 
 -- ---- the last of a list
 
@@ -108,22 +110,29 @@ module _ (first : Passed) (next : ToolkitState → Passed) (old mid new : Scene)
             ∙ second.last_is;
         counts = subst (λ (rows : List (List Registration)). Counts rows old.memory new.memory) (sym (rows_both (next first.state)))
             (counts_then (passed_rows first.log) (passed_rows (next first.state).log) old.memory mid.memory new.memory one.counts second.counts);
+        writes = writes_then first.log (next first.state).log old.memory mid.memory new.memory one.writes second.writes;
       }
 
   -- a fault stopped the first
-  pub first_stops : StopsAt (rows_of old.memory.table ∷ passed_rows first.log) old.memory mid.memory → StopsAt (rows_of old.memory.table ∷ passed_rows (before first next).log) old.memory mid.memory
-  first_stops stop =
-      subst (λ (rows : List (List Registration)). StopsAt (rows_of old.memory.table ∷ rows) old.memory mid.memory) (sym (rows_both (next first.state)))
-      (stops_before (rows_of old.memory.table ∷ passed_rows first.log) old.memory mid.memory stop (passed_rows (next first.state).log))
+  pub first_stops : StopsIn first.log old.memory mid.memory → StopsIn (before first next).log old.memory mid.memory
+  first_stops stop = record {
+    rows = subst (λ (rows : List (List Registration)). StopsAt (rows_of old.memory.table ∷ rows) old.memory mid.memory) (sym (rows_both (next first.state)))
+        (stops_before (rows_of old.memory.table ∷ passed_rows first.log) old.memory mid.memory stop.rows (passed_rows (next first.state).log));
+    writes = partly_first first.log (next first.state).log old.memory mid.memory stop.writes;
+  }
 
   -- a fault stopped the second
-  pub second_stops : IsDone first old mid → StopsAt (rows_of mid.memory.table ∷ passed_rows (next (toolkit mid)).log) mid.memory new.memory
-      → StopsAt (rows_of old.memory.table ∷ passed_rows (before first next).log) old.memory new.memory
+  pub second_stops : IsDone first old mid → StopsIn (next (toolkit mid)).log mid.memory new.memory
+      → StopsIn (before first next).log old.memory new.memory
   second_stops one stop =
       let so : StopsAt (first.state.rows ∷ passed_rows (next first.state).log) mid.memory new.memory =
-      subst (λ (s : ToolkitState). StopsAt (s.rows ∷ passed_rows (next s).log) mid.memory new.memory) one.state_is stop in
-      subst (λ (rows : List (List Registration)). StopsAt (rows_of old.memory.table ∷ rows) old.memory new.memory) (sym (rows_both (next first.state)))
-      (stops_later (passed_rows first.log) (rows_of old.memory.table) first.state.rows (passed_rows (next first.state).log) old.memory mid.memory new.memory one.last_is one.stands one.counts.commits so)
+      subst (λ (s : ToolkitState). StopsAt (s.rows ∷ passed_rows (next s).log) mid.memory new.memory) one.state_is stop.rows in
+      let written : IsPartlyWritten (next first.state).log mid.memory new.memory = subst (λ (s : ToolkitState). IsPartlyWritten (next s).log mid.memory new.memory) one.state_is stop.writes in
+      record {
+        rows = subst (λ (rows : List (List Registration)). StopsAt (rows_of old.memory.table ∷ rows) old.memory new.memory) (sym (rows_both (next first.state)))
+            (stops_later (passed_rows first.log) (rows_of old.memory.table) first.state.rows (passed_rows (next first.state).log) old.memory mid.memory new.memory one.last_is one.stands one.counts.commits so);
+        writes = partly_then first.log (next first.state).log old.memory mid.memory new.memory one.writes one.counts.commits written;
+      }
 
   -- first one step, and then what came of the next
   pub then_moves : {X : Type 0} (r : Result X StoreFault) → IsDone first old mid → MovesTo (next (toolkit mid)) mid new r → MovesTo (before first next) old new r

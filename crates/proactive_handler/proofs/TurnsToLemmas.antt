@@ -3,6 +3,7 @@ use Rattle.std.proofs.Common.{◌≡◌, refl, sym, ap, ◌∙◌, subst, ℕ, z
 use Rattle.std.proofs.lemmas.List.Elements.{All-head}
 use Rattle.uicc_types.specs.Counts.{raised_by}
 use Rattle.store_form.specs.declared.store.StoreFault.{StoreFault}
+use Rattle.card_state.specs.Changes.{Change}
 use Rattle.card_state.specs.Persistent.{Registration}
 use Rattle.applet_trait.specs.declared.stimuli.Stimulus.{Stimulus}
 use Rattle.applet_trait.specs.Minds.{AppletState}
@@ -17,14 +18,16 @@ use Rattle.proactive_handler.specs.Steps.{Scene, toolkit, MovesTo}
 
 record Parts (log : List Happening) (place : ℕ) : Type 0 where
   reached : List Happening
+  change : Change
   rows : List Registration
   rest : List Happening
-  split : log ≡ reached ++ Committed rows ∷ rest
+  split : log ≡ reached ++ Committed change rows ∷ rest
   long : length (passed_rows reached) ≡ place
 
 behind_one : (happening : Happening) (log : List Happening) (place : ℕ) → ((reached : List Happening) → passed_rows (happening ∷ reached) ≡ passed_rows reached) → Parts log place → Parts (happening ∷ log) place
 behind_one happening log place same parts = record {
   reached = happening ∷ parts.reached;
+  change = parts.change;
   rows = parts.rows;
   rest = parts.rest;
   split = ap (λ (later : List Happening). happening ∷ later) parts.split;
@@ -33,13 +36,14 @@ behind_one happening log place same parts = record {
 
 parts_of : (log : List Happening) (place : ℕ) → place < length (passed_rows log) → Parts log place
 parts_of [] place low = absurd (omega (arith, low))
-parts_of (Committed rows ∷ log) zero low = record { reached = []; rows = rows; rest = log; split = refl; long = refl }
-parts_of (Committed rows ∷ log) (suc place) low =
+parts_of (Committed change rows ∷ log) zero low = record { reached = []; change = change; rows = rows; rest = log; split = refl; long = refl }
+parts_of (Committed change rows ∷ log) (suc place) low =
     let parts = parts_of log place (omega (arith, low)) in record {
-      reached = Committed rows ∷ parts.reached;
+      reached = Committed change rows ∷ parts.reached;
+      change = parts.change;
       rows = parts.rows;
       rest = parts.rest;
-      split = ap (λ (later : List Happening). Committed rows ∷ later) parts.split;
+      split = ap (λ (later : List Happening). Committed change rows ∷ later) parts.split;
       long = ap (λ (n : ℕ). suc n) parts.long;
     }
 parts_of (Woke ∷ log) place low = behind_one Woke log place (λ reached. refl) (parts_of log place low)
@@ -64,7 +68,7 @@ run_begins fuel at stimulus works =
     let done = carried at made.does turned in
     let sent = admitted at turned.timers made.does in record {
       turn = record { shelf = at.shelf; stimulus = stimulus; act = made.does; is_admitted = is_some sent };
-      rest = committed done ++ (going_on done.works sent (run_on fuel at) done.tells).log;
+      rest = committed at made.does done ++ (going_on done.works sent (run_on fuel at) done.tells).log;
       is = refl;
       shelf_is = refl;
     }
@@ -80,9 +84,9 @@ other_turn shelf other log begins none same =
     All-head (λ (turn : ShelfTurn). turn.shelf ≢ other) begins.turn (turns begins.rest) (subst (HasNoTurn other) begins.is none) (begins.shelf_is ∙ same)
 
 -- what is before a commit begins as the whole
-reached_begins : (shelf : ℕ) (log reached rest : List Happening) (rows : List Registration) → log ≡ reached ++ Committed rows ∷ rest → Begins shelf log → Begins shelf reached
-reached_begins shelf log [] rest rows split begins = cc (split, begins.is)
-reached_begins shelf log (happening ∷ reached) rest rows split begins = record { turn = begins.turn; rest = reached; is = ap (λ (h : Happening). h ∷ reached) (cc (split, begins.is)); shelf_is = begins.shelf_is }
+reached_begins : (shelf : ℕ) (log reached rest : List Happening) (change : Change) (rows : List Registration) → log ≡ reached ++ Committed change rows ∷ rest → Begins shelf log → Begins shelf reached
+reached_begins shelf log [] rest change rows split begins = cc (split, begins.is)
+reached_begins shelf log (happening ∷ reached) rest change rows split begins = record { turn = begins.turn; rest = reached; is = ap (λ (h : Happening). h ∷ reached) (cc (split, begins.is)); shelf_is = begins.shelf_is }
 
 -- the run leaves all other boxes as they were
 pub run_turns : {X B : Type 0} (shelf : ℕ) (stimulus : Stimulus) (is_resumed : Bool) (old new : Scene) (cast left : List (Option B)) (mind : AppletState) → mind_on old.minds shelf ≡ Some mind → ((other : ℕ) → shelf ≢ other → IsSameBox other cast left)
@@ -91,12 +95,13 @@ run_turns shelf stimulus is_resumed old new cast left mind is same (Ok result) m
     λ other none. same other (other_turn shelf other (run_of_row shelf stimulus is_resumed (toolkit old)).log (row_begins shelf stimulus is_resumed (toolkit old) mind is) none)
 run_turns shelf stimulus is_resumed old new cast left mind is same (Err fault) stop =
     let log = (run_of_row shelf stimulus is_resumed (toolkit old)).log in
-    let parts = parts_of log stop.place (omega (arith, stop.one_more)) in
-    let begins = reached_begins shelf log parts.reached parts.rest parts.rows parts.split (row_begins shelf stimulus is_resumed (toolkit old) mind is) in record {
+    let parts = parts_of log stop.rows.place (omega (arith, stop.rows.one_more)) in
+    let begins = reached_begins shelf log parts.reached parts.rest parts.change parts.rows parts.split (row_begins shelf stimulus is_resumed (toolkit old) mind is) in record {
       reached = parts.reached;
+      change = parts.change;
       rows = parts.rows;
       rest = parts.rest;
       split = parts.split;
-      commits = stop.commits ∙ ap (λ (n : ℕ). raised_by n old.memory.commits) (sym parts.long);
+      commits = stop.rows.commits ∙ ap (λ (n : ℕ). raised_by n old.memory.commits) (sym parts.long);
       untold = λ other none. same other (other_turn shelf other parts.reached begins none);
     }

@@ -20,6 +20,7 @@ use Rattle.proactive_handler.specs.declared.endings.Next.TheVariants.{Told as Te
 use Rattle.proactive_handler.specs.declared.endings.Reply.{Reply}
 use Rattle.proactive_handler.specs.declared.endings.Reply.TheVariants.{Went as ItWent, Refused as WasRefused, Timer as GotTimer}
 use Rattle.proactive_handler.specs.Counting.{Counts}
+use Rattle.proactive_handler.specs.Written.{IsWritten, IsPartlyWritten}
 
 -- what stays the same in a run, as the definitions have it
 abbrev pub setting_of : GivenSetting → Setting
@@ -85,7 +86,8 @@ pub record IsCarriedOut (at : Setting) (does : Act) (old new : Stage) (next : Af
   pub works_are : works_at new ≡ (carried at does (works_at old)).works
   pub next_is : next ≡ next_of (carried at does (works_at old)).tells (admitted at old.timers does)
   pub stands : held new.memory ≡ option_map (with_these_rows (rows_of new.memory.table)) (held old.memory)
-  pub counts : Counts (passed_rows (committed (carried at does (works_at old)))) old.memory new.memory
+  pub counts : Counts (passed_rows (committed at does (carried at does (works_at old)))) old.memory new.memory
+  pub writes : IsWritten (committed at does (carried at does (works_at old))) old.memory new.memory
 
 -- A fault stopped the one commit of the act, which isn't counted: the store stands for the rows before it or for those after it,
 -- and nothing else changed.
@@ -95,6 +97,7 @@ pub record IsActStopped (at : Setting) (does : Act) (old new : Stage) : Type 0 w
   pub stands : (held new.memory ≡ held old.memory)
       ⊎ (held new.memory ≡ option_map (with_these_rows (carried at does (works_at old)).works.rows) (held old.memory))
   pub commits : new.memory.commits ≡ old.memory.commits
+  pub writes : IsPartlyWritten (committed at does (carried at does (works_at old))) old.memory new.memory
 
 -- what an act comes to after Ok, or where a fault stops it
 abbrev pub Carries : Setting → Act → Stage → Stage → Result Next StoreFault → Type 0

@@ -13,3 +13,4 @@ pub mod Scenes
 pub mod Serving
 pub mod Spelled
 pub mod Steps
+pub mod Written

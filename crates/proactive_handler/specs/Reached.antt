@@ -2,6 +2,7 @@
 use Rattle.std.specs.Prelude.{◌≢◌, Bool, All, Option, Result, Ok, Err, IfOk, ◌≡◌, ℕ, List, ◌∷◌, ◌++◌, length}
 use Rattle.uicc_types.specs.Counts.{raised_by}
 use Rattle.store_form.specs.declared.store.StoreFault.{StoreFault}
+use Rattle.card_state.specs.Changes.{Change}
 use Rattle.card_state.specs.Persistent.{Registration}
 use Rattle.toolkit_model.specs.Commands.{last_answer}
 use Rattle.toolkit_model.specs.Passing.{ToolkitState, Happening, Committed, Passed, turns, passed_rows}
@@ -16,9 +17,10 @@ HasNoTurn shelf log = All (λ turn. turn.shelf ≢ shelf) (turns log)
 -- turn before it is as it was.
 pub record StopsBehind {B : Type 0} (log : List Happening) (old new : Scene) (cast left : List (Option B)) : Type 0 where
   pub reached : List Happening
+  pub change : Change
   pub rows : List Registration
   pub rest : List Happening
-  pub split : log ≡ reached ++ Committed rows ∷ rest
+  pub split : log ≡ reached ++ Committed change rows ∷ rest
   pub commits : new.memory.commits ≡ raised_by (length (passed_rows reached)) old.memory.commits
   pub untold : (shelf : ℕ) → HasNoTurn shelf reached → IsSameBox shelf cast left
 

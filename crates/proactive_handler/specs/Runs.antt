@@ -12,7 +12,7 @@ use Rattle.toolkit_commands.specs.declared.commands.Proactive.{Proactive}
 use Rattle.applet_trait.specs.declared.stimuli.Stimulus.{Stimulus}
 use Rattle.applet_trait.specs.declared.stimuli.Act.{Act}
 use Rattle.applet_trait.specs.declared.stimuli.Act.TheVariants.{Answer}
-use Rattle.toolkit_model.specs.Passing.{passed_rows}
+use Rattle.toolkit_model.specs.Passing.{Happening, passed_rows}
 use Rattle.toolkit_model.specs.Running.{Works, Ran, run_on, most_acts}
 use Rattle.toolkit_model.specs.Commands.{last_answer}
 use Rattle.event_dispatch.specs.Indexes.{StandsFor}
@@ -20,6 +20,7 @@ use Rattle.proactive_handler.specs.declared.settings.Setting.{Setting as GivenSe
 use Rattle.proactive_handler.specs.declared.endings.RunEnd.{RunEnd}
 use Rattle.proactive_handler.specs.Acts.{setting_of, Stage, works_at, with_these_rows, command_of}
 use Rattle.proactive_handler.specs.Counting.{Counts}
+use Rattle.proactive_handler.specs.Written.{IsWritten, IsPartlyWritten}
 
 -- what an act answers to call control
 abbrev pub answer_of : Act → Option Bool
@@ -51,6 +52,7 @@ pub record IsRun (ran : Ran) (old new : Stage) (ending : Ended) : Type 0 where
   pub answer_is : ending.answer ≡ last_answer ran.log
   pub stands : held new.memory ≡ option_map (with_these_rows (rows_of new.memory.table)) (held old.memory)
   pub counts : Counts (passed_rows ran.log) old.memory new.memory
+  pub writes : IsWritten ran.log old.memory new.memory
 
 -- A fault stopped one of the commits by which the rows went through these: the table has the rows before it, and the store stands
 -- for those or for the ones after it. Those before it are counted, and no other.
@@ -62,10 +64,15 @@ pub record StopsAt (passed : List (List Registration)) (old new : Memory) : Type
       ⊎ (held new ≡ option_map (with_these_rows (slice_index_or passed (place + 1) [])) (held old))
   pub commits : new.commits ≡ raised_by place old.commits
 
+-- A fault stopped one of the commits that are noted: which rows stand then, and which bytes.
+pub record StopsIn (log : List Happening) (old new : Memory) : Type 0 where
+  pub rows : StopsAt (rows_of old.table ∷ passed_rows log) old new
+  pub writes : IsPartlyWritten log old new
+
 -- A fault stopped it: the store stands for the state before it or after one of its commits.
 pub record IsCut (ran : Ran) (old new : Stage) : Type 0 where
   pub passes : PassesOne (held old.memory) (held new.memory) (with_each_rows (passed_rows ran.log))
-  pub stops : StopsAt (rows_of old.memory.table ∷ passed_rows ran.log) old.memory new.memory
+  pub stops : StopsIn ran.log old.memory new.memory
 
 -- it comes to this run, with this act as the last, or a fault stopped it
 abbrev pub RunsTo : Ran → Stage → Stage → Act → Result RunEnd StoreFault → Type 0

@@ -129,8 +129,9 @@ fn commit_deregistration<S: Store>(
     ensures same { OnErr result (loaded.new ≡ loaded.old) }
     ensures keeps { Keeps (memory S.Store store.old loaded.old) (memory S.Store store.new loaded.new) result }
 {
-    // This call is a law, and does nothing.
+    // These calls are laws, and do nothing.
     tables_tell_states();
+    states_are_of_entries();
     card_commits::deregister(store, loaded, shelf, code)?;
     index.removed(shelf, code);
     Ok(Next::Told(Reply::Went))

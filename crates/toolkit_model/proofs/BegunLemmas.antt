@@ -33,8 +33,8 @@ first_begun (Some shelf) = refl
 
 begun_commit : (commit log : List Happening) → IsCommit commit → begun (commit ++ log) ≡ begun log
 begun_commit [] log is = refl
-begun_commit (Committed rows ∷ []) log is = refl
-begun_commit (Committed rows ∷ more ∷ others) log is = absurd is
+begun_commit (Committed change rows ∷ []) log is = refl
+begun_commit (Committed change rows ∷ more ∷ others) log is = absurd is
 begun_commit (Woke ∷ others) log is = absurd is
 begun_commit (Fetched out ∷ others) log is = absurd is
 begun_commit (Responded out reply ∷ others) log is = absurd is

@@ -31,7 +31,7 @@ Follows held (Fetched out ∷ log) now = (held ≡ None) × Follows (Some (as_fe
 Follows held (Responded out reply ∷ log) now = (held ≡ Some out) × Follows None log now
 Follows held (Given trigger ∷ log) now = Follows held log now
 Follows held (Turned turn ∷ log) now = Follows held log now
-Follows held (Committed rows ∷ log) now = Follows held log now
+Follows held (Committed change rows ∷ log) now = Follows held log now
 
 follows_join : (held mid now : Option Outstanding) (log more : List Happening) → Follows held log mid → Follows mid more now → Follows held (log ++ more) now
 follows_join held mid now [] more first second = subst (λ (held : Option Outstanding). Follows held more now) (sym first) second
@@ -40,7 +40,7 @@ follows_join held mid now (Fetched out ∷ log) more first second = (first.0, fo
 follows_join held mid now (Responded out reply ∷ log) more first second = (first.0, follows_join None mid now log more first.1 second)
 follows_join held mid now (Given trigger ∷ log) more first second = follows_join held mid now log more first second
 follows_join held mid now (Turned turn ∷ log) more first second = follows_join held mid now log more first second
-follows_join held mid now (Committed rows ∷ log) more first second = follows_join held mid now log more first second
+follows_join held mid now (Committed change rows ∷ log) more first second = follows_join held mid now log more first second
 
 one_from : (held now : Option Outstanding) (log : List Happening) → Follows held log now → OneAtATime held log
 one_from held now [] follows = tt
@@ -49,7 +49,7 @@ one_from held now (Fetched out ∷ log) follows = (follows.0, one_from (Some (as
 one_from held now (Responded out reply ∷ log) follows = (follows.0, one_from None now log follows.1)
 one_from held now (Given trigger ∷ log) follows = one_from held now log follows
 one_from held now (Turned turn ∷ log) follows = one_from held now log follows
-one_from held now (Committed rows ∷ log) follows = one_from held now log follows
+one_from held now (Committed change rows ∷ log) follows = one_from held now log follows
 
 -- ---- runs
 
@@ -59,8 +59,8 @@ IsQuiet stimulus sent log = (held : Option Outstanding) → Follows held log hel
 
 quiet_commit : (commit log : List Happening) (held : Option Outstanding) → IsCommit commit → Follows held log held → Follows held (commit ++ log) held
 quiet_commit [] log held is rest = rest
-quiet_commit (Committed rows ∷ []) log held is rest = rest
-quiet_commit (Committed rows ∷ more ∷ others) log held is rest = absurd is
+quiet_commit (Committed change rows ∷ []) log held is rest = rest
+quiet_commit (Committed change rows ∷ more ∷ others) log held is rest = absurd is
 quiet_commit (Woke ∷ others) log held is rest = absurd is
 quiet_commit (Fetched out ∷ others) log held is rest = absurd is
 quiet_commit (Responded out reply ∷ others) log held is rest = absurd is
@@ -167,7 +167,7 @@ late_part held (Fetched out ∷ early) rest one = late_part (Some (as_fetched ou
 late_part held (Responded out reply ∷ early) rest one = late_part None early rest one.1
 late_part held (Given trigger ∷ early) rest one = late_part held early rest one
 late_part held (Turned turn ∷ early) rest one = late_part held early rest one
-late_part held (Committed rows ∷ early) rest one = late_part held early rest one
+late_part held (Committed change rows ∷ early) rest one = late_part held early rest one
 
 answered_between : (held second : Outstanding) (between late : List Happening) → OneAtATime (Some held) (between ++ (Fetched second ∷ late)) → list_any is_end between ≡ true
 answered_between held second [] late one = absurd (cc (one.0))
@@ -176,7 +176,7 @@ answered_between held second (Responded out reply ∷ between) late one = refl
 answered_between held second (Fetched out ∷ between) late one = absurd (cc (one.0))
 answered_between held second (Given trigger ∷ between) late one = answered_between held second between late one
 answered_between held second (Turned turn ∷ between) late one = answered_between held second between late one
-answered_between held second (Committed rows ∷ between) late one = answered_between held second between late one
+answered_between held second (Committed change rows ∷ between) late one = answered_between held second between late one
 
 pub one_is_answered : (held : Option Outstanding) (log : List Happening) → OneAtATime held log → AnsweredBetween log
 one_is_answered held log one early between late first second is =

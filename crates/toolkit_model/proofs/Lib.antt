@@ -5,6 +5,7 @@ mod CarriedLemmas
 pub mod CommandsLemmas
 mod DrivenLemmas
 mod DrivingLemmas
+pub mod EventsOfLemmas
 pub mod FetchingLemmas
 mod FilledLemmas
 pub mod InstallationsAreAcceptedLemmas

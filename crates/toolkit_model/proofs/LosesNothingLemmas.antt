@@ -47,8 +47,8 @@ one_told (Some trigger) = refl
 
 commit_gives : (commit log : List Happening) → IsCommit commit → filter_map given_in (commit ++ log) ≡ filter_map given_in log
 commit_gives [] log is = refl
-commit_gives (Committed rows ∷ []) log is = refl
-commit_gives (Committed rows ∷ more ∷ others) log is = absurd is
+commit_gives (Committed change rows ∷ []) log is = refl
+commit_gives (Committed change rows ∷ more ∷ others) log is = absurd is
 commit_gives (Woke ∷ others) log is = absurd is
 commit_gives (Fetched out ∷ others) log is = absurd is
 commit_gives (Responded out reply ∷ others) log is = absurd is
@@ -57,8 +57,8 @@ commit_gives (Turned turn ∷ others) log is = absurd is
 
 commit_tells : (commit log : List Happening) → IsCommit commit → filter_map told_in (commit ++ log) ≡ filter_map told_in log
 commit_tells [] log is = refl
-commit_tells (Committed rows ∷ []) log is = refl
-commit_tells (Committed rows ∷ more ∷ others) log is = absurd is
+commit_tells (Committed change rows ∷ []) log is = refl
+commit_tells (Committed change rows ∷ more ∷ others) log is = absurd is
 commit_tells (Woke ∷ others) log is = absurd is
 commit_tells (Fetched out ∷ others) log is = absurd is
 commit_tells (Responded out reply ∷ others) log is = absurd is

@@ -49,12 +49,12 @@ reaches_join shelf held mid now (Turned turn ∷ log) more first second =
     on_turn (turn.shelf == shelf) turn held (λ later. ReachesWhoAsked shelf later log mid) (λ later. ReachesWhoAsked shelf later (log ++ more) now) (λ later part. reaches_join shelf later mid now log more part second) first
 reaches_join shelf held mid now (Fetched out ∷ log) more first second = reaches_join shelf held mid now log more first second
 reaches_join shelf held mid now (Given trigger ∷ log) more first second = reaches_join shelf held mid now log more first second
-reaches_join shelf held mid now (Committed rows ∷ log) more first second = reaches_join shelf held mid now log more first second
+reaches_join shelf held mid now (Committed change rows ∷ log) more first second = reaches_join shelf held mid now log more first second
 
 after_commit : (shelf : ℕ) (held now : Awaits) (commit log : List Happening) → IsCommit commit → ReachesWhoAsked shelf held log now → ReachesWhoAsked shelf held (commit ++ log) now
 after_commit shelf held now [] log is rest = rest
-after_commit shelf held now (Committed rows ∷ []) log is rest = rest
-after_commit shelf held now (Committed rows ∷ more ∷ others) log is rest = absurd is
+after_commit shelf held now (Committed change rows ∷ []) log is rest = rest
+after_commit shelf held now (Committed change rows ∷ more ∷ others) log is rest = absurd is
 after_commit shelf held now (Woke ∷ others) log is rest = absurd is
 after_commit shelf held now (Fetched out ∷ others) log is rest = absurd is
 after_commit shelf held now (Responded out reply ∷ others) log is rest = absurd is

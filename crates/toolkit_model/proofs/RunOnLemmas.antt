@@ -22,6 +22,7 @@ use Rattle.toolkit_model.specs.declared.faults.RowFault.{RowFault}
 use Rattle.toolkit_model.specs.Orderly.{CanBeSent}
 use Rattle.toolkit_model.specs.Registry.{registers, deregisters, with_code, without_code, with_kept}
 use Rattle.toolkit_model.specs.Passing.{Happening, Committed}
+use Rattle.toolkit_model.specs.Changes.{change_by}
 use Rattle.toolkit_model.specs.Running.{Setting, Works, Carried, Ran, answers, commits, is_short, is_cards_own, is_within_rights, is_admitted, admitted, is_held_by, carried, changing, taking, committed, going_on, run_on}
 use Rattle.toolkit_model.specs.Turns.{IsInner, turn_of, IsCommit}
 use Rattle.toolkit_model.proofs.CarriedLemmas.{IsPlaced, carried_placed}
@@ -71,24 +72,24 @@ pub record IsOfRuns (shelf : ℕ) (Q : Stimulus → Option Proactive → List Ha
   pub gone_on : (stimulus next : Stimulus) (does : Act) (sent : Option Proactive) (commit log : List Happening) → IsInner next → IsCommit commit
       → Q next sent log → Q stimulus sent (turn_of shelf stimulus does None ∷ commit ++ log)
 
-commit_is : (done : Carried) → IsCommit (committed done)
-commit_is done = cond_both done.is_committed (Committed done.works.rows ∷ []) [] IsCommit (λ h. tt) (λ h. tt)
+commit_is : (at : Setting) (does : Act) (done : Carried) → IsCommit (committed at does done)
+commit_is at does done = cond_both done.is_committed (Committed (change_by at.shelf does done.works.rows) done.works.rows ∷ []) [] IsCommit (λ h. tt) (λ h. tt)
 
-no_commit : (done : Carried) → done.is_committed ≡ false → committed done ≡ []
-no_commit done is = cond_both done.is_committed (Committed done.works.rows ∷ []) [] (λ (log : List Happening). log ≡ []) (λ h. cc) (λ h. refl)
+no_commit : (at : Setting) (does : Act) (done : Carried) → done.is_committed ≡ false → committed at does done ≡ []
+no_commit at does done is = cond_both done.is_committed (Committed (change_by at.shelf does done.works.rows) done.works.rows ∷ []) [] (λ (log : List Happening). log ≡ []) (λ h. cc) (λ h. refl)
 
-going_logs : (shelf : ℕ) (Q : Stimulus → Option Proactive → List Happening → Type 0) → IsOfRuns shelf Q
+going_logs : (at : Setting) (shelf : ℕ) (Q : Stimulus → Option Proactive → List Happening → Type 0) → IsOfRuns shelf Q
     → (stimulus : Stimulus) (does : Act) (sent : Option Proactive) (done : Carried) (next : Stimulus → Works → Ran) (tells : Option Stimulus) → IfSome sent (λ command. does ≡ Send command) → done.tells ≡ tells
     → Leads done sent → ((stimulus : Stimulus) → Q stimulus (next stimulus done.works).sent (next stimulus done.works).log)
     → let ran = going_on done.works sent next tells in
-    Q stimulus ran.sent (turn_of shelf stimulus does sent ∷ committed done ++ ran.log)
-going_logs shelf Q is stimulus does sent done next None known same leads more =
-    subst (λ (commit : List Happening). Q stimulus sent (turn_of shelf stimulus does sent ∷ commit ++ [])) (sym (no_commit done (leads.ends same))) (is.ended stimulus does sent known)
-going_logs shelf Q is stimulus does sent done next (Some told) known same leads more =
+    Q stimulus ran.sent (turn_of shelf stimulus does sent ∷ committed at does done ++ ran.log)
+going_logs at shelf Q is stimulus does sent done next None known same leads more =
+    subst (λ (commit : List Happening). Q stimulus sent (turn_of shelf stimulus does sent ∷ commit ++ [])) (sym (no_commit at does done (leads.ends same))) (is.ended stimulus does sent known)
+going_logs at shelf Q is stimulus does sent done next (Some told) known same leads more =
     let goes : IsInner told × (sent ≡ None) = subst (λ (tells : Option Stimulus). IfSome tells (λ next. IsInner next × (sent ≡ None))) same leads.goes in
     let ran = next told done.works in
-    subst (λ (before : Option Proactive). Q stimulus ran.sent (turn_of shelf stimulus does before ∷ committed done ++ ran.log)) (sym goes.1)
-    (is.gone_on stimulus told does ran.sent (committed done) ran.log goes.0 (commit_is done) (more told))
+    subst (λ (before : Option Proactive). Q stimulus ran.sent (turn_of shelf stimulus does before ∷ committed at does done ++ ran.log)) (sym goes.1)
+    (is.gone_on stimulus told does ran.sent (committed at does done) ran.log goes.0 (commit_is at does done) (more told))
 
 admitted_is : (at : Setting) (timers : Owners) (does : Act) → IfSome (admitted at timers does) (λ command. does ≡ Send command)
 admitted_is at timers (Send command) = cond_both (is_admitted at timers command) (Some command) None (λ sent. IfSome sent (λ other. Send command ≡ Send other)) (λ h. refl) (λ h. tt)
@@ -108,7 +109,7 @@ run_logs Q (suc fuel) at stimulus works is =
     let made = act works.mind stimulus in
     let turned : Works = record works { mind = made.next } in
     let done = carried at made.does turned in
-    going_logs at.shelf Q is stimulus made.does (admitted at turned.timers made.does) done (run_on fuel at) done.tells (admitted_is at turned.timers made.does) refl (carried_leads at made.does turned)
+    going_logs at at.shelf Q is stimulus made.does (admitted at turned.timers made.does) done (run_on fuel at) done.tells (admitted_is at turned.timers made.does) refl (carried_leads at made.does turned)
     (λ next. run_logs Q fuel at next done.works is)
 
 -- ---- what a run sends

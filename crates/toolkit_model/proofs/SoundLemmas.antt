@@ -32,6 +32,7 @@ use Rattle.toolkit_model.specs.declared.faults.RowFault.TheVariants.{BadData, No
 use Rattle.toolkit_model.specs.Sessions.{Outstanding, LateTrigger}
 use Rattle.toolkit_model.specs.Passing.{ToolkitState, Happening, Committed, Passed, noting, rows_in, passed_rows}
 use Rattle.toolkit_model.specs.Registry.{faulty_if, is_on, is_taken, is_menu_full, last_sequence, is_answered, is_registered, without_row, with_changed, with_code, without_code, with_kept, registers, deregisters}
+use Rattle.toolkit_model.specs.Changes.{change_by}
 use Rattle.toolkit_model.specs.Running.{Setting, Works, Carried, Ran, is_admitted, admitted, is_held_by, carried, changing, taking, committed, going_on, run_on, most_acts, setting_of, works_of, mind_on, run_of_mind, run_of_row}
 use Rattle.toolkit_model.specs.Driving.{running, with_next_command}
 use Rattle.toolkit_model.specs.Commands.{fetched, resumed, with_nothing_out, answered, registering, unregistering, woken_box, toolkit_woken, woken_boxes}
@@ -268,9 +269,9 @@ module _ (wide : Bool) (next : ℕ) where
     rows : Sound ran.works.rows
     commits : All Sound (passed_rows ran.log)
 
-  noted_sound : (done : Carried) (more : List Happening) → Sound done.works.rows → All Sound (passed_rows more) → All Sound (passed_rows (committed done ++ more))
-  noted_sound done more hold all =
-      cond_both done.is_committed (Committed done.works.rows ∷ []) [] (λ (log : List Happening). All Sound (passed_rows (log ++ more))) (λ h. All-cons Sound done.works.rows (passed_rows more) hold all) (λ h. all)
+  noted_sound : (at : Setting) (does : Act) (done : Carried) (more : List Happening) → Sound done.works.rows → All Sound (passed_rows more) → All Sound (passed_rows (committed at does done ++ more))
+  noted_sound at does done more hold all =
+      cond_both done.is_committed (Committed (change_by at.shelf does done.works.rows) done.works.rows ∷ []) [] (λ (log : List Happening). All Sound (passed_rows (log ++ more))) (λ h. All-cons Sound done.works.rows (passed_rows more) hold all) (λ h. all)
 
   going_sound : (works : Works) (sent : Option Proactive) (go : Stimulus → Works → Ran) (tells : Option Stimulus) → Sound works.rows → ((stimulus : Stimulus) → RanSound (go stimulus works)) → RanSound (going_on works sent go tells)
   going_sound works sent go None hold more = record { rows = hold; commits = All-nil Sound }
@@ -285,7 +286,7 @@ module _ (wide : Bool) (next : ℕ) where
       let done = carried at made.does turned in
       let now : Sound done.works.rows = carried_sound at made.does turned hold in
       let rest = going_sound done.works (admitted at works.timers made.does) (run_on fuel at) done.tells now (λ told. run_sound fuel at told done.works now) in
-      record { rows = rest.rows; commits = noted_sound done (going_on done.works (admitted at works.timers made.does) (run_on fuel at) done.tells).log now rest.commits }
+      record { rows = rest.rows; commits = noted_sound at made.does done (going_on done.works (admitted at works.timers made.does) (run_on fuel at) done.tells).log now rest.commits }
 
   -- ---- steps
 

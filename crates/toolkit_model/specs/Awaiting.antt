@@ -64,4 +64,4 @@ ReachesWhoAsked shelf held (Responded out reply ∷ log) now = OnReply (is_owner
 ReachesWhoAsked shelf held (Turned turn ∷ log) now = OnTurn (turn.shelf == shelf) turn held (λ later. ReachesWhoAsked shelf later log now)
 ReachesWhoAsked shelf held (Fetched out ∷ log) now = ReachesWhoAsked shelf held log now
 ReachesWhoAsked shelf held (Given trigger ∷ log) now = ReachesWhoAsked shelf held log now
-ReachesWhoAsked shelf held (Committed rows ∷ log) now = ReachesWhoAsked shelf held log now
+ReachesWhoAsked shelf held (Committed change rows ∷ log) now = ReachesWhoAsked shelf held log now

@@ -3,6 +3,7 @@ use Rattle.std.specs.Prelude.{ℕ, ◌-◌, Bool, true, false, not, ◌&&◌, �
 use Rattle.std.specs.Option.{option_map, option_to_list}
 use Rattle.std.specs.List.{filter_map, last_or, enumerate_from}
 use Rattle.uicc_types.specs.declared.events.TheConstants.{USER_ACTIVITY, IDLE_SCREEN, PROFILE_DOWNLOAD, STATUS_COMMAND, MENU_SELECTION, TIMER_EXPIRATION, CALL_CONTROL}
+use Rattle.card_state.specs.Changes.{AddRow, TakeRow}
 use Rattle.card_state.specs.Persistent.{Registration}
 use Rattle.card_state.specs.Sections.{has_text, with_row}
 use Rattle.toolkit_commands.specs.Table.{details_of, spelled}
@@ -22,6 +23,7 @@ use Rattle.toolkit_model.specs.Order.{targets}
 use Rattle.toolkit_model.specs.Registry.{row_on, without_row, item_of}
 use Rattle.toolkit_model.specs.Passing.{ToolkitState, Happening, Fetched, Responded, Committed, ShelfTurn, Passed, unmoved, noting, before, in_turn, turns}
 use Rattle.toolkit_model.specs.Running.{run_of_row, with_mind}
+use Rattle.toolkit_model.specs.Changes.{entry_of}
 use Rattle.toolkit_model.specs.Driving.{is_idle, with_session, told_one, given_one, driven}
 
 -- ---- TERMINAL PROFILE and STATUS
@@ -196,7 +198,7 @@ registering row state =
     let rows = with_row state.rows row in
     record {
       state = record { rows = rows; session = state.session; minds = with_mind state.minds row.shelf (Some (fresh row.kind row.kept)) };
-      log = Committed rows ∷ [];
+      log = Committed (AddRow row.shelf (entry_of row)) rows ∷ [];
     }
 
 -- INSTALL: the applet is registered and wakes; then idle applets catch up, and the next command goes out
@@ -213,7 +215,7 @@ unregistering shelf state =
         session = record state.session { timers = map (without (record { 0 = shelf })) state.session.timers };
         minds = with_mind state.minds shelf None;
       };
-      log = Committed rows ∷ [];
+      log = Committed (TakeRow shelf) rows ∷ [];
     }
 
 -- DELETE: the applet is registered no more and is gone; then idle applets catch up, and the next command goes out

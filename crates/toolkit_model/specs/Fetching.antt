@@ -14,7 +14,7 @@ OneAtATime held (Fetched out ∷ log) = (held ≡ None) × OneAtATime (Some (as_
 OneAtATime held (Responded out reply ∷ log) = (held ≡ Some out) × OneAtATime None log
 OneAtATime held (Given trigger ∷ log) = OneAtATime held log
 OneAtATime held (Turned turn ∷ log) = OneAtATime held log
-OneAtATime held (Committed rows ∷ log) = OneAtATime held log
+OneAtATime held (Committed change rows ∷ log) = OneAtATime held log
 
 -- an accepted answer, or a wake
 abbrev pub is_end : Happening → Bool

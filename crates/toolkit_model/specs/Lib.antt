@@ -1,5 +1,6 @@
 pub mod Awaiting
 pub mod Begun
+pub mod Changes
 pub mod Commands
 pub mod Driving
 pub mod Fetching

@@ -19,6 +19,7 @@ use Rattle.toolkit_model.specs.declared.faults.RowFault.{RowFault}
 use Rattle.toolkit_model.specs.Sessions.{SessionState}
 use Rattle.toolkit_model.specs.Registry.{row_on, registers, deregisters, with_code, without_code, with_kept}
 use Rattle.toolkit_model.specs.Passing.{ToolkitState, Happening, Turned, Committed, Passed, unmoved}
+use Rattle.toolkit_model.specs.Changes.{change_by}
 
 -- Where a run goes on: the applet's shelf, the handset's profile, and whether call control began it.
 pub record Setting : Type 0 where
@@ -124,13 +125,13 @@ pub record Ran : Type 0 where
   pub log : List Happening
 
 -- the commit of the act, if there was one
-abbrev pub committed : Carried → List Happening
-committed done = if done.is_committed then Committed done.works.rows ∷ [] else []
+abbrev pub committed : Setting → Act → Carried → List Happening
+committed at does done = if done.is_committed then Committed (change_by at.shelf does done.works.rows) done.works.rows ∷ [] else []
 
 -- the turn, and the commit that it led to
 abbrev pub noted : Setting → Stimulus → Act → Owners → Carried → List Happening
 noted at stimulus does timers done =
-    Turned (record { shelf = at.shelf; stimulus = stimulus; act = does; is_admitted = is_some (admitted at timers does) }) ∷ committed done
+    Turned (record { shelf = at.shelf; stimulus = stimulus; act = does; is_admitted = is_some (admitted at timers does) }) ∷ committed at does done
 
 -- the run goes on where the applet is told something, and else is over
 abbrev pub going_on : Works → Option Proactive → (Stimulus → Works → Ran) → Option Stimulus → Ran

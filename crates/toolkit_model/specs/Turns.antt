@@ -19,5 +19,5 @@ turn_of shelf stimulus act sent = Turned (record { shelf = shelf; stimulus = sti
 -- a commit, or none
 abbrev pub IsCommit : List Happening → Type 0
 IsCommit [] = Unit {0}
-IsCommit (Committed rows ∷ []) = Unit {0}
+IsCommit (Committed change rows ∷ []) = Unit {0}
 IsCommit _ = ⊥

@@ -20,7 +20,7 @@ use Rattle.cat_commands.proofs.deleting.unregister.Goals as goal
 pub returns-in_err-remove_row-clause-moves : goal.returns-in_err-remove_row-clause-moves
 returns-in_err-remove_row-clause-moves g c =
     stays_registered c.args.shelf.0 (scene (memory g.S.Store c.args.store.now c.args.loaded.now) c.args.index.now c.args.session.now (minds_of g.B.Applet.mind c.args.cast.now)) c.requires.rests.order.rows.shelves (has_rows c.tables_tell_states.ensures _ _ c.args.loaded.now c.requires.rests.mounted.agrees)
-    (scene (memory g.S.Store c.remove_row.new.store c.remove_row.new.loaded) c.args.index.now c.args.session.now (minds_of g.B.Applet.mind c.args.cast.now)) c.from_residual.result c.from_residual.ensures.0 (ap rows_of c.in_err-remove_row.ensures.kept) c.in_err-remove_row.ensures.committed.whole c.in_err-remove_row.ensures.committed.commits
+    (scene (memory g.S.Store c.remove_row.new.store c.remove_row.new.loaded) c.args.index.now c.args.session.now (minds_of g.B.Applet.mind c.args.cast.now)) c.from_residual.result c.from_residual.ensures.0 (ap rows_of c.in_err-remove_row.ensures.kept) c.in_err-remove_row.ensures.committed.whole c.in_err-remove_row.ensures.committed.commits c.in_err-remove_row.ensures.writes.whole
 
 pub returns-in_err-remove_row-clause-keeps : goal.returns-in_err-remove_row-clause-keeps
 returns-in_err-remove_row-clause-keeps g c =
@@ -32,7 +32,7 @@ returns-in_err-remove_row-clause-keeps g c =
 pub returns-clause-moves : goal.returns-clause-moves
 returns-clause-moves g c =
     goes c.args.shelf.0 (scene (memory g.S.Store c.args.store.now c.args.loaded.now) c.args.index.now c.args.session.now (minds_of g.B.Applet.mind c.args.cast.now)) c.requires.rests.order.rows.shelves (has_rows c.tables_tell_states.ensures _ _ c.args.loaded.now c.requires.rests.mounted.agrees)
-    (scene (memory g.S.Store c.remove_row.new.store c.remove_row.new.loaded) c.gone.new.self c.released.new.self (minds_of g.B.Applet.mind c.take_out.new.cast)) (rows_without c.args.loaded.now c.remove_row.new.loaded c.args.shelf.0 c.requires.rests.order.rows.shelves c.in_ok-remove_row.ensures.rows) c.released.ensures c.take_out.ensures.minds c.in_ok-remove_row.ensures.committed.ok c.in_ok-remove_row.ensures.committed.commits
+    (scene (memory g.S.Store c.remove_row.new.store c.remove_row.new.loaded) c.gone.new.self c.released.new.self (minds_of g.B.Applet.mind c.take_out.new.cast)) (rows_without c.args.loaded.now c.remove_row.new.loaded c.args.shelf.0 c.requires.rests.order.rows.shelves c.in_ok-remove_row.ensures.rows) c.released.ensures c.take_out.ensures.minds c.in_ok-remove_row.ensures.committed.ok c.in_ok-remove_row.ensures.committed.commits c.in_ok-remove_row.ensures.writes.ok
 
 pub returns-clause-keeps : goal.returns-clause-keeps
 returns-clause-keeps g c =

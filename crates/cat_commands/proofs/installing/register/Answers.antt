@@ -10,7 +10,7 @@ use Rattle.toolkit_model.specs.Running.{mind_on}
 use Rattle.proactive_handler.specs.Steps.{scene}
 use Rattle.proactive_handler.proofs.RowsAreListedLemmas.{rows_listed}
 use Rattle.cat_commands.proofs.HasRowOnLemmas.{has_set, served_on}
-use Rattle.cat_commands.proofs.RegisteringLemmas.{wakes, wakes_kind, rows_with, registered_so, with_row_has}
+use Rattle.cat_commands.proofs.RegisteringLemmas.{wakes, wakes_kind, rows_with, registered_so, registered_not, with_row_has}
 use Rattle.cat_commands.proofs.AppletInstalledLemmas.{rows_and_next, index_with, keeps_beside}
 use Rattle.cat_commands.proofs.TriggersLemmas.{contained_has}
 use Rattle.cat_commands.proofs.installing.register.Goals as goal
@@ -20,6 +20,13 @@ returns-clause-registers g c =
     registered_so (scene (memory g.S.Store c.args.store.now c.args.loaded.now) c.args.index.now c.args.session.now (minds_of g.B.Applet.mind c.args.cast.now)) (scene (memory g.S.Store c.install_row.new.store c.install_row.new.loaded) c.installed.new.self c.args.session.now (minds_of g.B.Applet.mind c.wake.new.cast))
     c.args.shelf.0 c.args.row c.in_ok-install_row.ensures.table c.in_ok-install_row.ensures.rows refl
     (wakes (minds_of g.B.Applet.mind c.args.cast.now) (minds_of g.B.Applet.mind c.wake.new.cast) c.args.shelf.0 c.args.row.kind c.args.row.kept c.copy-kept.result c.requires.installable.kind c.copy-kept.ensures c.wake.ensures.minds) c.in_ok-install_row.ensures.committed.ok c.in_ok-install_row.ensures.committed.commits
+    c.requires.installable.row_is.used c.requires.installable.row_is.events c.in_ok-install_row.ensures.writes.ok
+
+pub returns-in_err-install_row-clause-registers : goal.returns-in_err-install_row-clause-registers
+returns-in_err-install_row-clause-registers g c =
+    registered_not (scene (memory g.S.Store c.args.store.now c.args.loaded.now) c.args.index.now c.args.session.now (minds_of g.B.Applet.mind c.args.cast.now)) (scene (memory g.S.Store c.install_row.new.store c.install_row.new.loaded) c.args.index.now c.args.session.now (minds_of g.B.Applet.mind c.args.cast.now))
+    c.args.shelf.0 c.args.row c.from_residual.result c.from_residual.ensures.0 c.in_err-install_row.ensures.kept c.in_err-install_row.ensures.committed.whole c.in_err-install_row.ensures.committed.commits
+    c.requires.installable.row_is.used c.requires.installable.row_is.events c.in_err-install_row.ensures.writes.whole
 
 pub returns-clause-keeps : goal.returns-clause-keeps
 returns-clause-keeps g c =

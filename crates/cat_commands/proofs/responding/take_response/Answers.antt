@@ -1,13 +1,11 @@
 -- A response that passes the tests is to a command that was fetched: that one is named, and what `respond_and_drive` says of any is said of it.
-use Rattle.std.proofs.Common.{refl, sym, ap, ◌∙◌, [], ◌∷◌}
+use Rattle.std.proofs.Common.{refl, sym, ap, ◌∙◌, []}
 use Rattle.card_state.specs.Memory.{memory}
-use Rattle.card_state.specs.States.{rows_of}
 use Rattle.toolkit_commands.specs.Replies.{replied}
 use Rattle.applet_trait.specs.Minds.{minds_of}
-use Rattle.toolkit_model.specs.Passing.{passed_rows}
 use Rattle.toolkit_model.specs.Commands.{unanswered, responded}
 use Rattle.toolkit_model.specs.Steps.{Respond}
-use Rattle.proactive_handler.specs.Runs.{StopsAt}
+use Rattle.proactive_handler.specs.Runs.{StopsIn}
 use Rattle.proactive_handler.specs.Steps.{scene, toolkit, IsDone}
 use Rattle.card_model.specs.Toolkit.{response_taken}
 use Rattle.cat_commands.specs.Trying.{seen}
@@ -34,7 +32,7 @@ returns-in_err-respond_and_drive-in-Ok-clause-carries g c =
     card_stops card old has [] (responded there.0 (replied c.in-Ok.response)) new (tells_here c.tables_tell_states.ensures old c.requires.rests.mounted) c.respond_and_drive.ensures.keeps.table
     (response_taken card c.args.command.now) _ (response_at c.args.session.now c.fetched.result c.args.command.now c.fetched.ensures card has.session_is there.0 (replied c.in-Ok.response) there.1 goes)
     (responded there.0 (replied c.in-Ok.response)) refl c.from_residual.result c.from_residual.ensures.0
-    (of_some (unanswered c.args.session.now) (λ out. StopsAt (rows_of old.memory.table ∷ passed_rows (responded out (replied c.in-Ok.response) (toolkit old)).log) old.memory new.memory) there.0 there.1 c.in_err-respond_and_drive-in-Ok.ensures.moves)
+    (of_some (unanswered c.args.session.now) (λ out. StopsIn (responded out (replied c.in-Ok.response) (toolkit old)).log old.memory new.memory) there.0 there.1 c.in_err-respond_and_drive-in-Ok.ensures.moves)
 
 pub returns-in_ok-respond_and_drive-in-Ok-clause-carries : goal.returns-in_ok-respond_and_drive-in-Ok-clause-carries
 returns-in_ok-respond_and_drive-in-Ok-clause-carries g c =

@@ -1,6 +1,7 @@
 -- Bytes that are kept change no codes, so an index of the rows stays one; after a fault the rows are the old ones or those of the act.
-use Rattle.std.proofs.Common.{refl, ◌∙◌, List, arith}
+use Rattle.std.proofs.Common.{refl, sym, ap, ◌∙◌, ℕ, List, arith}
 use Rattle.std.proofs.lemmas.Bool.Decides.{nat_tests}
+use Rattle.card_state.specs.Changes.{PutKept}
 use Rattle.card_state.specs.Changing.{with_kept_committed}
 use Rattle.card_state.specs.Memory.{memory}
 use Rattle.card_state.specs.Persistent.{Registration}
@@ -23,14 +24,14 @@ returns-then-bytes-gt-MOST_KEPT-clause-carries g c = λ at timers mind here.
 
 pub returns-in_err-keep_bytes-clause-carries : goal.returns-in_err-keep_bytes-clause-carries
 returns-in_err-keep_bytes-clause-carries g c = λ at timers mind here.
-    commit_stops c.tables_tell_states.ensures (memory g.S.Store c.args.store.now c.args.loaded.now) c.requires.mounted.agrees at (Keep c.args.bytes.now) timers mind (with_kept_committed c.args.shelf.0 c.args.bytes.now) (λ (rows : List Registration). with_kept rows c.args.shelf.0 c.args.bytes.now) (keeps c.args.shelf.0 c.args.bytes.now) (keep_goes at _ c.args.shelf.0 here c.args.bytes.now (grind (arith, nat_tests))) (memory g.S.Store c.keep_bytes.new.store c.keep_bytes.new.loaded) c.from_residual.result c.from_residual.ensures.0 c.in_err-keep_bytes.ensures.kept c.in_err-keep_bytes.ensures.committed.whole c.in_err-keep_bytes.ensures.committed.commits
+    commit_stops c.tables_tell_states.ensures (memory g.S.Store c.args.store.now c.args.loaded.now) c.requires.mounted.agrees at (Keep c.args.bytes.now) timers mind (with_kept_committed c.args.shelf.0 c.args.bytes.now) (λ (rows : List Registration). with_kept rows c.args.shelf.0 c.args.bytes.now) (keeps c.args.shelf.0 c.args.bytes.now) (keep_goes at _ c.args.shelf.0 here c.args.bytes.now (grind (arith, nat_tests))) (PutKept c.args.shelf.0 c.args.bytes.now) (ap (λ (n : ℕ). PutKept n c.args.bytes.now) (sym here)) (memory g.S.Store c.keep_bytes.new.store c.keep_bytes.new.loaded) c.from_residual.result c.from_residual.ensures.0 c.in_err-keep_bytes.ensures.kept c.in_err-keep_bytes.ensures.committed.whole c.in_err-keep_bytes.ensures.committed.commits c.in_err-keep_bytes.ensures.writes.whole
 
 pub returns-in_err-keep_bytes-clause-table : goal.returns-in_err-keep_bytes-clause-table
 returns-in_err-keep_bytes-clause-table g c = rows_alone_differ c.args.loaded.now c.keep_bytes.new.loaded c.args.loaded.now.rows c.in_err-keep_bytes.ensures.kept
 
 pub returns-clause-carries : goal.returns-clause-carries
 returns-clause-carries g c = λ at timers mind here.
-    commit_stands c.tables_tell_states.ensures (memory g.S.Store c.args.store.now c.args.loaded.now) c.requires.mounted.agrees at (Keep c.args.bytes.now) timers mind (with_kept_committed c.args.shelf.0 c.args.bytes.now) (λ (rows : List Registration). with_kept rows c.args.shelf.0 c.args.bytes.now) (keeps c.args.shelf.0 c.args.bytes.now) (keep_goes at _ c.args.shelf.0 here c.args.bytes.now (grind (arith, nat_tests))) (memory g.S.Store c.keep_bytes.new.store c.keep_bytes.new.loaded) c.in_ok-keep_bytes.ensures.committed.ok c.in_ok-keep_bytes.ensures.committed.commits
+    commit_stands c.tables_tell_states.ensures (memory g.S.Store c.args.store.now c.args.loaded.now) c.requires.mounted.agrees at (Keep c.args.bytes.now) timers mind (with_kept_committed c.args.shelf.0 c.args.bytes.now) (λ (rows : List Registration). with_kept rows c.args.shelf.0 c.args.bytes.now) (keeps c.args.shelf.0 c.args.bytes.now) (keep_goes at _ c.args.shelf.0 here c.args.bytes.now (grind (arith, nat_tests))) (PutKept c.args.shelf.0 c.args.bytes.now) (ap (λ (n : ℕ). PutKept n c.args.bytes.now) (sym here)) (memory g.S.Store c.keep_bytes.new.store c.keep_bytes.new.loaded) c.in_ok-keep_bytes.ensures.committed.ok c.in_ok-keep_bytes.ensures.committed.commits c.in_ok-keep_bytes.ensures.writes.ok
     (c.in_ok-keep_bytes.ensures.rows ∙ keeps_bytes (rows_alone c.args.loaded.now) c.args.shelf.0 c.args.bytes.now)
 
 pub returns-clause-table : goal.returns-clause-table
