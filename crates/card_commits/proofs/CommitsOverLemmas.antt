@@ -32,7 +32,8 @@ part_usable size number from to node pieces size_is low order inside is =
 
 -- ---- what stands
 
-changed_twice : (first second : List ℕ → List ℕ) (told : Told) → option_map second (option_map first told) ≡ option_map (λ content. second (first content)) told
+-- first one change of what is told, and then another
+pub changed_twice : (first second : List ℕ → List ℕ) (told : Told) → option_map second (option_map first told) ≡ option_map (λ content. second (first content)) told
 changed_twice first second None = refl
 changed_twice first second (Some content) = refl
 

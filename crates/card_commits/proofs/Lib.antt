@@ -1,4 +1,4 @@
-mod CommitsOverLemmas
+pub mod CommitsOverLemmas
 mod CommittedLemmas
 mod DescriptorsOfLemmas
 mod EntriesLemmas

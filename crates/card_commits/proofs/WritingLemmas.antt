@@ -28,8 +28,8 @@ use Rattle.layout_laws.specs.Standing.{IsPinEntry}
 use Rattle.card_commits.specs.declared.pins.PinChange.{PinChange}
 use Rattle.card_commits.specs.declared.pins.PinChange.TheVariants.{Tries, UnblockTries, Value, Enabled, Unblocked}
 use Rattle.card_commits.specs.Entries.{row_at, with_head_moved}
-use Rattle.card_commits.specs.Pins.{changed_pin, span_of, fields_of, put_pin}
-use Rattle.card_commits.specs.Writing.{pieces_of, pin_pieces, span_set, prepared_for, written, WritesChange, WritesPieces}
+use Rattle.card_commits.specs.Pins.{changed_pin, span_of, span_set, fields_of, put_pin}
+use Rattle.card_commits.specs.Writing.{pieces_of, pin_pieces, prepared_for, written, WritesChange, WritesPieces}
 
 -- nothing is prepared for the change
 abbrev pub IsUnprepared : Change → Type 0
@@ -113,13 +113,6 @@ added_pieces table shelf next row pieces same is = is ∙ ap (λ (n : ℕ). row_
 
 -- ---- a PIN
 
-span_same : (change : PinChange) → span_of change ≡ span_set (fields_of change)
-span_same (Tries tries) = refl
-span_same (UnblockTries tries) = refl
-span_same (Value value) = refl
-span_same (Enabled enabled) = refl
-span_same (Unblocked value) = refl
-
 same_key : (change : PinChange) (pin : PinSlot) → (changed_pin change pin).key ≡ pin.key
 unfolding changed_pin
 same_key (Tries tries) pin = refl
@@ -151,8 +144,7 @@ module _ (of_table : StandingIsOfTable) (slots : SlotsArePins) (mark : ℕ) (tol
   pub pin_pieces_put : (new : PinSlot) (from to : ℕ) (pieces : List Piece) → new ≡ changed_pin change pin → (from, to) ≡ span_of change → pieces ≡ pin_part slot new from to ∷ [] → pieces ≡ pieces_of table (put_pin change (pins_of table) pin)
   unfolding pieces_of
   pin_pieces_put new from to pieces same span is =
-      let both : (from, to) ≡ span_set (fields_of change) = span ∙ span_same change in
       is ∙ ap (λ (p : PinSlot). pin_part slot p from to ∷ []) same
-      ∙ ap (λ (s : ℕ × ℕ). pin_part slot new_pin s.0 s.1 ∷ []) both
+      ∙ ap (λ (s : ℕ × ℕ). pin_part slot new_pin s.0 s.1 ∷ []) span
       ∙ ap (λ (s : ℕ). pin_part s new_pin (span_set (fields_of change)).0 (span_set (fields_of change)).1 ∷ []) (sym slot_is)
       ∙ ap (λ (o : Option Pin). pin_pieces (fields_of change) o) (sym after_found)

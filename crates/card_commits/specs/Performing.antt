@@ -20,14 +20,16 @@ CommitsAtMost times before now = (done : ℕ) × ((done ≤ times) × (now ≡ r
 
 -- ---- the bytes
 
--- A fault stopped some changes, in order: so many of them are counted, and the bytes are those after these, or after one more.
+-- Some changes, one after the other, which a fault stopped: so many of them are counted, and the bytes are those after these, or after one
+-- more.
 pub record StopsAmong (changes : List Change) (old new : Memory) : Type 0 where
   pub done : ℕ
   pub few : done ≤ length changes
   pub commits : new.commits ≡ raised_by done old.commits
   pub told : (new.told ≡ option_map (all_written (take done changes)) old.told) ⊎ (new.told ≡ option_map (all_written (take (done + 1) changes)) old.told)
 
--- What a command has written over a store that tells its bytes: what its changes write, in order, and nothing else.
+-- What a command has written over a store that tells its bytes: after Ok what its changes write, in order, and nothing else; where a fault
+-- stopped it, what some of them write (`StopsAmong`).
 abbrev pub WritesAll : {X E : Type 0} → Result X E → Memory → Memory → (Persistent → List Change) → Type 0
 WritesAll (Ok done) old new changes = IfSome (held old) (λ state. new.told ≡ option_map (all_written (changes state)) old.told)
 WritesAll (Err fault) old new changes = IfSome (held old) (λ state. StopsAmong (changes state) old new)

@@ -18,14 +18,6 @@ changed_pin (Value value) pin = record pin { tries = TRIES; value = value }
 changed_pin (Enabled enabled) pin = record pin { enabled = enabled; tries = TRIES }
 changed_pin (Unblocked value) pin = record pin { enabled = true; tries = TRIES; unblock_tries = UNBLOCK_TRIES; value = value }
 
--- the first of the bytes of the entry that are set, and the one after the last
-abbrev pub span_of : PinChange → ℕ × ℕ
-span_of (Tries tries) = (2, 3)
-span_of (UnblockTries tries) = (3, 4)
-span_of (Value value) = (2, 12)
-span_of (Enabled enabled) = (1, 3)
-span_of (Unblocked value) = (1, 12)
-
 -- no more tries than a PIN can have
 abbrev pub HasFewTries : PinChange → Type 0
 HasFewTries (Tries tries) = tries ≤ TRIES
@@ -41,6 +33,18 @@ fields_of (UnblockTries tries) = OfUnblockTries
 fields_of (Value value) = OfValue
 fields_of (Enabled enabled) = OfEnabling
 fields_of (Unblocked value) = OfUnblocking
+
+-- the first of the bytes of a PIN's entry that are set, and the one after the last: enabled is byte 1, the tries are 2 and 3, the value 4 to 11
+abbrev pub span_set : PinFields → ℕ × ℕ
+span_set OfTries = (2, 3)
+span_set OfUnblockTries = (3, 4)
+span_set OfValue = (2, 12)
+span_set OfEnabling = (1, 3)
+span_set OfUnblocking = (1, 12)
+
+-- the same of a change
+abbrev pub span_of : PinChange → ℕ × ℕ
+span_of change = span_set (fields_of change)
 
 -- the change of a PIN among these, as the card's
 abbrev pub put_pin : PinChange → List Pin → PinSlot → Change

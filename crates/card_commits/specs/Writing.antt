@@ -1,4 +1,4 @@
--- Which bytes of a card's memory a change writes.
+-- What a card's memory holds after a change.
 use Rattle.std.specs.Prelude.{◌≡◌, ◌⊎◌, ℕ, ◌+◌, ◌*◌, ◌^◌, ◌<◌, nat_lt, if◌then◌else◌, true, false, List, [], ◌∷◌, length, Option, Some, None, option_map, Result, OnOk, OnErr}
 use Rattle.store_form.specs.declared.store.StoreFault.{StoreFault}
 use Rattle.store_form.specs.Pieces.{Piece, applied}
@@ -6,7 +6,7 @@ use Rattle.card_state.specs.declared.entries.Node.{Node}
 use Rattle.card_state.specs.declared.entries.PinSlot.{PinSlot}
 use Rattle.card_state.specs.declared.entries.Loaded.{Loaded}
 use Rattle.card_state.specs.Blank.{unused_node}
-use Rattle.card_state.specs.Changes.{PinFields, OfTries, OfUnblockTries, OfValue, OfEnabling, OfUnblocking, Change, PutBytes, PutRecord, PutNewest, PutLife, PutPin, MakeFile, TakeFile, FitFile, AddRow, TakeRow, PutEvents, PutKept}
+use Rattle.card_state.specs.Changes.{PinFields, Change, PutBytes, PutRecord, PutNewest, PutLife, PutPin, MakeFile, TakeFile, FitFile, AddRow, TakeRow, PutEvents, PutKept}
 use Rattle.card_state.specs.Decoding.{table_of}
 use Rattle.card_state.specs.Kinds.{codes_of}
 use Rattle.card_state.specs.Memory.{Memory}
@@ -17,17 +17,10 @@ use Rattle.file_model.specs.Pins.{pin_found}
 use Rattle.layout_entries.specs.Spelling.{node_part, pin_part, row_part, sequence_part}
 use Rattle.layout_laws.specs.ChangeLaws.{kept_pieces}
 use Rattle.card_commits.specs.Entries.{row_at, with_head_moved}
+use Rattle.card_commits.specs.Pins.{span_set}
 use Rattle.card_commits.specs.Prepared.{filled, moved}
 
 -- ---- entries
-
--- the first of the bytes of a PIN's slot that are set, and the one after the last: enabled is byte 1, the tries are 2 and 3, the value 4 to 11
-abbrev pub span_set : PinFields → ℕ × ℕ
-span_set OfTries = (2, 3)
-span_set OfUnblockTries = (3, 4)
-span_set OfValue = (2, 12)
-span_set OfEnabling = (1, 3)
-span_set OfUnblocking = (1, 12)
 
 -- the slot of a PIN
 abbrev pub slot_with : Pin → PinSlot
@@ -40,16 +33,17 @@ slot_with pin = record {
   unblock = record { 0 = pin.unblock };
 }
 
--- the length of a record
+-- the length of the records, 0 where there are none
 abbrev pub record_width : Contents → ℕ
 record_width (Records (bytes ∷ records)) = length bytes
 record_width _ = 0
 
--- the entry of a new file, with its rule or without
+-- an entry with a rule, or as it is
 abbrev pub entry_ruled : Option Rule → Node → Node
 entry_ruled None node = node
 entry_ruled (Some rule) node = record node { rule = rule.number; arr = record { 0 = rule.arr } }
 
+-- the entry of a new file
 abbrev pub entry_with : File → Node
 entry_with file = entry_ruled file.rule (record unused_node {
   used = true;
@@ -65,12 +59,12 @@ entry_with file = entry_ruled file.rule (record unused_node {
 
 -- ---- what a change writes
 
--- of a PIN that is there, its fields in the slot of its key
+-- of a PIN that is there, its fields in the slot of its key; of another nothing
 abbrev pub pin_pieces : PinFields → Option Pin → List Piece
 pin_pieces fields None = []
 pin_pieces fields (Some pin) = pin_part (slot_of_key pin.key) (slot_with pin) (span_set fields).0 (span_set fields).1 ∷ []
 
--- of a file that grows, its place and its size; of another its size alone
+-- of a file that grows, its place and its size; of another its size alone; nothing where there is no such file
 abbrev pub fit_pieces : ℕ → Node → Option File → List Piece
 fit_pieces number node None = []
 fit_pieces number node (Some file) =
@@ -82,7 +76,8 @@ fit_pieces number node (Some file) =
 -- Of a file's entry there is written its life cycle status; its size, with its place before that where it grows; the byte that says that it is
 -- used, where the file goes; and all 16 bytes of a new one. Of a PIN's slot there are written the bytes from the first field that is set to the
 -- last. A new row is 51 bytes, and after them come the next sequence number and the kept bytes that stand apart. Of a row there are written its
--- events, its kept bytes with their length before them, or the byte that says that it is used.
+-- events, its kept bytes with their length before them, or the byte that says that it is used. What a store holds shows neither their order
+-- nor how they are cut.
 unfoldable pub pieces_of : Loaded → Change → List Piece
 pieces_of table (PutBytes number offset bytes) = record { place = (node_at table number).place + offset; bytes = bytes } ∷ []
 pieces_of table (PutRecord number index bytes) = record { place = (node_at table number).place + index * (node_at table number).length; bytes = bytes } ∷ []
@@ -104,7 +99,7 @@ abbrev pub moved_if : Node → Option File → List ℕ → List ℕ
 moved_if node None content = content
 moved_if node (Some file) content = if nat_lt node.size file.size then moved node file.place file.size content else content
 
--- the bytes before the commit of a change: a new file's are FF, and those of a file that grows stand at its new place; nothing else is prepared
+-- the bytes before the commit of a change: a new file's are FF, and those of a file that grows stand at its new place, with FF after them; nothing else is prepared
 unfoldable pub prepared_for : Change → List ℕ → List ℕ
 prepared_for (MakeFile file) content = filled file.place file.size content
 prepared_for (FitFile number file) content = moved_if (node_at (table_of content) number) file content
@@ -133,8 +128,8 @@ pub record WritesEvents {T : Type 0} (old new : Memory) (result : Result T Store
   -- twelve bits, one for each code
   pub events : ℕ
   pub low : events < 2 ^ 12
-  pub told : codes_of events ≡ codes
-  pub written_so : WritesChange old new result (PutEvents shelf events)
+  pub codes_are : codes_of events ≡ codes
+  pub writes : WritesChange old new result (PutEvents shelf events)
 
 -- The same of pieces, whatever they change.
 pub record WritesPieces {T : Type 0} (old new : Memory) (result : Result T StoreFault) (pieces : List Piece) : Type 0 where

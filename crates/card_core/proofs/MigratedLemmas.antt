@@ -14,6 +14,7 @@ use Rattle.layout_entries.specs.Spelling.{version_part}
 use Rattle.layout_laws.specs.Cards.{IsFreeRange}
 use Rattle.layout_laws.specs.Migrating.{OthersStay, UpperRowsAreFree, WideVersionStands}
 use Rattle.layout_laws.specs.Stores.{StandsWith, WrittenStands, PreparedStands, TornStands}
+use Rattle.card_commits.proofs.CommitsOverLemmas.{changed_twice}
 
 -- a state that the migration leaves as it is is the migrated one
 pub stays : OthersStay → (mark : ℕ) (told : Option (List ℕ)) (table : Loaded) → Agrees mark told table → (table.wide ≡ true) ⊎ (entries_end_low table ≡ false) → standing mark told ≡ option_map migrated (standing mark told)
@@ -23,11 +24,6 @@ stays others mark (Some held) table agrees is =
     let decoded : result_ok (stands_for mark held) ≡ Some agrees.state = ap (λ (content : List ℕ). result_ok (stands_for mark content)) agrees.told_is ∙ ap result_ok agrees.stands.decoded in
     let same : migrated agrees.state ≡ agrees.state = others mark agrees.content table agrees.state agrees.stands is in
     decoded ∙ ap Some (sym same) ∙ sym (ap (option_map migrated) decoded)
-
--- first one change of what is told, and then another
-changed_twice : (first second : List ℕ → List ℕ) (told : Option (List ℕ)) → option_map second (option_map first told) ≡ option_map (λ content. second (first content)) told
-changed_twice first second None = refl
-changed_twice first second (Some content) = refl
 
 module _ (mark : ℕ) (told : Option (List ℕ)) (table : Loaded) (agrees : Agrees mark told table) (narrow : table.wide ≡ false) (low : entries_end_low table ≡ true) (free : UpperRowsAreFree) where
   upper_free : IsFreeRange table.wide agrees.state.files (data_end true) 1024

@@ -88,7 +88,7 @@ pub record Refuses (old new : Memory) (boxes : List (Option AppletState)) (fault
 
 -- ---- the recoveries of an opening
 
--- the count after a refusal for this cause, which was so before: one was asked for, but none where there was no memory for the card
+-- the count of recoveries after a refusal for this cause, by the count before: one more, or, where there was no memory for the card, the same
 abbrev pub recoveries_at : OpenFault → ℕ → ℕ
 recoveries_at (NotACard at) before = raised before
 recoveries_at (NoBox shelf) before = raised before
@@ -96,7 +96,7 @@ recoveries_at Failed before = raised before
 recoveries_at PowerLost before = raised before
 recoveries_at NoMemory before = before
 
--- the same of an opening that ended so: one that is done asked for one
+-- the same after an opening that ended so: one more after Ok
 abbrev pub recoveries_after : {X : Type 0} → Result X OpenFault → ℕ → ℕ
 recoveries_after (Ok done) before = raised before
 recoveries_after (Err fault) before = recoveries_at fault before

@@ -1,6 +1,6 @@
 pub mod AreEventCodesLemmas
 mod AreNodesRightLemmas
-mod BitsForLemmas
+pub mod BitsForLemmas
 mod CodesOfLemmas
 pub mod FileOfLemmas
 mod FilterRangeLemmas

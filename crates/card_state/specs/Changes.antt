@@ -7,7 +7,7 @@ use Rattle.card_state.specs.States.{registration_of}
 use Rattle.card_state.specs.Changing.{with_file_at, with_row_on, with_bytes, with_record, with_newest_record, with_life, with_codes, with_kept_committed}
 
 -- The fields of a PIN that one commit sets: its tries; those of its UNBLOCK PIN; its value or whether it is enabled, with its tries; or
--- all but the value of the UNBLOCK PIN (ETSI TS 102 221, 9.5).
+-- all but the value of the UNBLOCK PIN (ETSI TS 102 221, 11.1.9 to 11.1.13).
 pub data PinFields : Type 0 where
   OfTries : PinFields
   OfUnblockTries : PinFields
@@ -16,8 +16,9 @@ pub data PinFields : Type 0 where
   OfUnblocking : PinFields
 
 -- A change. Of a file by its number: other bytes from an offset on, another record `index + 1`, a new record 1, or another life cycle status.
--- Of PINs: these after it, of which the one with this key has these fields set. A file that comes, that goes by its number, or that has
--- another place and size. On a shelf: a row that comes, no row any more, other events, or other kept bytes.
+-- Of PINs: these after it; the fields and the key tell which of their bytes are written. A file that comes, that goes by its number, or that
+-- has another place and size (None where there is no such file). On a shelf: a row that comes, and with it the next sequence number, no row
+-- any more, other events, or other kept bytes, at most 32.
 pub data Change : Type 0 where
   PutBytes : ℕ → ℕ → List ℕ → Change
   PutRecord : ℕ → ℕ → List ℕ → Change

@@ -60,7 +60,7 @@ becomes_same (Some content) new same = subst (λ (o : Told). Becomes (Torn 0 0) 
 pub over_nothing : {T : Type 0} (old new : Memory) (piece : Piece) (result : Result T StoreFault) → WritesPieces old new result (piece ∷ []) → WritesOver old new result as_it_was 0 0 piece
 over_nothing old new piece result wrote = record {
   ok = wrote.ok;
-  whole =
+  stopped =
       on_err_weaker result
       (λ how. ⊎_elim {C = Becomes (Torn 0 0) old.told new.told ⊎ (new.told ≡ option_map (λ content. after piece (as_it_was content)) old.told)} (λ kept. inl (becomes_same old.told new.told kept)) (λ put. inr put) how) wrote.whole;
 }
@@ -188,4 +188,4 @@ module _ (of_table : StandingIsOfTable) (known : AgreeingStands) (before : Memor
   fit_stops fault after_all range over = if_some (held before) _ (λ state is.
       let at = of_held of_table known before mounted (λ s. range_for before.table (change s) ≡ (place, count)) range state is in
       ⊎_elim {C = Becomes (Torn (range_for before.table (change state)).0 (range_for before.table (change state)).1) before.told after_all.told ⊎ (after_all.told ≡ option_map (written (change state)) before.told)}
-      (λ torn. inl (subst (λ (r : ℕ × ℕ). Becomes (Torn r.0 r.1) before.told after_all.told) (sym at) torn)) (λ put. inr (put ∙ told_held state is)) over.whole)
+      (λ torn. inl (subst (λ (r : ℕ × ℕ). Becomes (Torn r.0 r.1) before.told after_all.told) (sym at) torn)) (λ put. inr (put ∙ told_held state is)) over.stopped)

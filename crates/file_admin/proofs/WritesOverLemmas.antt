@@ -36,6 +36,7 @@ use Rattle.layout_laws.specs.Known.{StandingIsOfTable}
 use Rattle.layout_laws.specs.Stores.{AgreeingStands}
 use Rattle.card_commits.specs.Prepared.{filled}
 use Rattle.card_commits.specs.Writing.{pieces_of, prepared_for, written, all_written, entry_with, entry_ruled, record_width, WritesPieces}
+use Rattle.card_commits.proofs.CommitsOverLemmas.{changed_twice}
 use Rattle.card_commits.proofs.FilledLemmas.{Told, IsWhole, KeepsTo, filled_keeps, torn_by}
 use Rattle.card_commits.proofs.WritesAllLemmas.{none_written, one_written}
 use Rattle.file_admin.specs.NewEntries.{node_made}
@@ -45,17 +46,13 @@ use Rattle.file_admin.proofs.AnswersTreeLemmas.{of_held}
 
 -- ---- a commit over what was prepared
 
-changed_twice : (first second : List ℕ → List ℕ) (told : Told) → option_map second (option_map first told) ≡ option_map (λ content. second (first content)) told
-changed_twice first second None = refl
-changed_twice first second (Some content) = refl
-
 pub writes_over : {T : Type 0} (old mid new : Memory) (prepared : List ℕ → List ℕ) (place count : ℕ) (piece : Piece) → mid.told ≡ option_map prepared old.told → KeepsTo place count prepared → IsWhole old.told → (result : Result T StoreFault)
     → WritesPieces mid new result (piece ∷ []) → WritesOver old new result prepared place count piece
 writes_over old mid new prepared place count piece is keeps whole result wrote =
     let both : option_map (after piece) mid.told ≡ option_map (λ content. after piece (prepared content)) old.told = ap (option_map (after piece)) is ∙ changed_twice prepared (after piece) old.told in
     record {
       ok = on_ok_weaker result (λ put. put ∙ both) wrote.ok;
-      whole =
+      stopped =
           on_err_weaker result
           (λ how. ⊎_elim {C = Becomes (Torn place count) old.told new.told ⊎ (new.told ≡ option_map (λ content. after piece (prepared content)) old.told)}
           (λ kept. inl (torn_by place count prepared keeps old.told new.told whole (kept ∙ is))) (λ put. inr (put ∙ both)) how) wrote.whole;
@@ -137,7 +134,7 @@ module _ (number df place : ℕ) (asked : NewFile) (may : IsTrue (may_be_made as
   made_stops fault old new over = if_some (held old) _ (λ state there.
       ⊎_elim {C = Becomes (Torn file.place file.size) old.told new.told ⊎ (new.told ≡ option_map (written (MakeFile file)) old.told)}
       (λ torn. inl (subst (λ (p : ℕ). Becomes (Torn p file.size) old.told new.told) (sym lies) (subst (λ (n : ℕ). Becomes (Torn node.place n) old.told new.told) (sym fills) torn)))
-      (λ put. inr (put ∙ made_told old.told)) over.whole)
+      (λ put. inr (put ∙ made_told old.told)) over.stopped)
 
 -- ---- what a command has written
 

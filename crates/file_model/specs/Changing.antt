@@ -18,14 +18,15 @@ FilesPassChanges =
     (command : FileCommand) (state : Persistent) (seen : Verified) (selection : Selection) (apdu : Apdu)
     → IfOk (file_outcome command state seen selection apdu) (λ outcome. outcome.passed ≡ states_after state outcome.changes)
 
--- of a PIN command: the states with the PINs that it passes are those after the changes that leave them
+-- of a PIN command: the states with the PINs that it passes are those after the changes that leave them (a `PutPin` leaves its PINs whatever its
+-- fields are; which bytes these are is for who carries the command out to show)
 abbrev pub PinsPassChanges : Type 0
 PinsPassChanges =
     (command : PinCommand) (state : Persistent) (verified : Verified) (apdu : Apdu)
     → IfOk (pin_outcome command state.pins verified apdu)
     (λ outcome. map (λ pins. record state { pins = pins }) outcome.passed ≡ states_after state (pins_put (first_fields command) (second_fields command) apdu.p2 outcome.passed))
 
--- of a command that makes, deletes or resizes a file
+-- the same of a command that makes, deletes or resizes a file
 abbrev pub TreesPassChanges : Type 0
 TreesPassChanges =
     (command : TreeCommand) (state : Persistent) (seen : Verified) (channels : List (Option Selection)) (channel : ℕ) (apdu : Apdu)

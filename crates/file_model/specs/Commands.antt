@@ -62,11 +62,12 @@ pin_outcome Disable pins verified apdu = pin_disabled pins verified apdu
 pin_outcome Enable pins verified apdu = pin_enabled pins verified apdu
 pin_outcome Unblock pins verified apdu = pin_unblocked pins verified apdu
 
--- the fields that a command sets first, where it takes a try, and those that it sets where the value was right
+-- the fields that a command sets where it takes a try
 abbrev pub first_fields : PinCommand → PinFields
 first_fields Unblock = OfUnblockTries
 first_fields _ = OfTries
 
+-- and those that it sets where the value was right
 abbrev pub second_fields : PinCommand → PinFields
 second_fields Verify = OfTries
 second_fields Change = OfValue

@@ -60,7 +60,8 @@ unblock_presented pins verified pin value new new_verified =
 abbrev pub told : Verified → ℕ → PinOutcome
 told verified tries = record { status = tries_left tries; verified = verified; passed = [] }
 
--- the changes that leave these PINs, one after the other: the first sets some fields of the PIN with this key, the second others
+-- the changes that leave these PINs, one after the other: the first sets some fields of the PIN with this key, the second others; a PIN command
+-- has two at most
 abbrev pub pins_put : PinFields → PinFields → ℕ → List (List Pin) → List Change
 pins_put first second key [] = []
 pins_put first second key (pins ∷ []) = PutPin first key pins ∷ []

@@ -147,10 +147,7 @@ fn kind_passes(kind: u8) -> bool
 fn has_id(node: &Node, other: &Node) -> bool
     ensures { result ≡ has_id_of node.now other.now }
 {
-    if other.id.0 != node.id.0 {
-        return false;
-    }
-    are_siblings(node, other) && other.id.0 == node.id.0
+    other.id.0 == node.id.0 && are_siblings(node, other)
 }
 
 fn some_has_id(earlier: &[Node], node: &Node) -> bool

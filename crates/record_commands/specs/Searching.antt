@@ -11,17 +11,17 @@ abbrev pub left_from : Bool → ℕ → ℕ → ℕ
 left_from true count from = count + 1 - from
 left_from false count from = from
 
--- of so many records from the first on, the number of the next one, where so many are left
+-- of `count` records from `first` on, of which `left` are left: the number of the next one
 abbrev pub number_left : Bool → ℕ → ℕ → ℕ → ℕ
 number_left true first count left = first + (count - left)
 number_left false first count left = first + (left - 1)
 
--- the numbers of the records that are still to be searched, forward or backward
+-- and the numbers of all of them, in the order of the search
 abbrev pub numbers_left : Bool → ℕ → ℕ → ℕ → List ℕ
 numbers_left true first count left = range_with_len (first + (count - left)) left
 numbers_left false first count left = reverse (range_with_len first left)
 
--- where so many are left in the file, the number of the first of the next ones that are read together, which are so many
+-- of `left` records that are left of a search, `size` are read together next: the number of the first of them
 abbrev pub first_left : Bool → ℕ → ℕ → ℕ → ℕ
 first_left true count left size = 1 + (count - left)
 first_left false count left size = 1 + (left - size)

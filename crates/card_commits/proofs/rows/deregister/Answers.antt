@@ -39,6 +39,6 @@ pub returns-clause-writes : goal.returns-clause-writes
 returns-clause-writes g c = record {
   events = c.without_event-events.result;
   low = omega (arith, c.without_event-events.ensures.low, (c.cards_are_known.ensures.rows _ _ c.args.loaded.now _ c.args.shelf.0 c.row_of.result.now c.requires.mounted.agrees.stands c.row_of.ensures.there).events);
-  told = c.without_event-events.ensures.value ∙ ap (λ (r : Row). filter (λ other. not (other == c.args.code)) (codes_of r.events)) c.row_of.ensures.value;
-  written_so = c.replace_events.ensures.writes;
+  codes_are = c.without_event-events.ensures.value ∙ ap (λ (r : Row). filter (λ other. not (other == c.args.code)) (codes_of r.events)) c.row_of.ensures.value;
+  writes = c.replace_events.ensures.writes;
 }

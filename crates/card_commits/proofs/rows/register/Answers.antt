@@ -44,6 +44,6 @@ pub returns-clause-writes : goal.returns-clause-writes
 returns-clause-writes g c = record {
   events = c.with_event-events.result;
   low = omega (arith, c.with_event-events.ensures.low (c.cards_are_known.ensures.rows _ _ c.args.loaded.now _ c.args.shelf.0 c.row_of.result.now c.requires.mounted.agrees.stands c.row_of.ensures.there).events);
-  told = c.with_event-events.ensures.value ∙ ap (λ (r : Row). sorted_codes (c.args.code ∷ codes_of r.events)) c.row_of.ensures.value;
-  written_so = c.replace_events.ensures.writes;
+  codes_are = c.with_event-events.ensures.value ∙ ap (λ (r : Row). sorted_codes (c.args.code ∷ codes_of r.events)) c.row_of.ensures.value;
+  writes = c.replace_events.ensures.writes;
 }

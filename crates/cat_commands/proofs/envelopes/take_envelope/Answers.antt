@@ -6,7 +6,7 @@ use Rattle.toolkit_commands.specs.Reports.{reported}
 use Rattle.applet_trait.specs.Minds.{minds_of}
 use Rattle.toolkit_model.specs.Commands.{enveloped, call_data}
 use Rattle.toolkit_model.specs.Steps.{Report}
-use Rattle.proactive_handler.proofs.ScenesLemmas.{scene_done}
+use Rattle.proactive_handler.proofs.ScenesLemmas.{scene_done, scene_fault}
 use Rattle.proactive_handler.specs.Steps.{scene, toolkit}
 use Rattle.card_model.specs.Toolkit.{toolkit_of, envelope_taken}
 use Rattle.cat_commands.specs.Trying.{seen}
@@ -69,6 +69,10 @@ returns-in_ok-answer-in-Ok-clause-ends g c =
 pub returns-in_ok-answer-in-Ok-clause-keeps : goal.returns-in_ok-answer-in-Ok-clause-keeps
 returns-in_ok-answer-in-Ok-clause-keeps g c =
     scene_done (scene (memory g.S.Store c.args.store.now c.args.loaded.now) c.args.index.now c.args.session.now (minds_of g.B.Applet.mind c.args.cast.now)) (scene (memory g.S.Store c.report.new.store c.report.new.loaded) c.report.new.index c.report.new.session (minds_of g.B.Applet.mind c.report.new.cast)) _ _ c.in_ok-answer-in-Ok.ensures.keeps
+
+pub returns-in_err-answer-in-Ok-clause-keeps : goal.returns-in_err-answer-in-Ok-clause-keeps
+returns-in_err-answer-in-Ok-clause-keeps g c =
+    scene_fault (scene (memory g.S.Store c.args.store.now c.args.loaded.now) c.args.index.now c.args.session.now (minds_of g.B.Applet.mind c.args.cast.now)) (scene (memory g.S.Store c.report.new.store c.report.new.loaded) c.report.new.index c.report.new.session (minds_of g.B.Applet.mind c.report.new.cast)) c.in_err-answer-in-Ok.field-0.0 c.from_residual.result c.from_residual.ensures.0 c.from_residual.ensures.1 c.in_err-answer-in-Ok.ensures.keeps
 
 pub returns-in-Err-clause-carries : goal.returns-in-Err-clause-carries
 returns-in-Err-clause-carries g c =

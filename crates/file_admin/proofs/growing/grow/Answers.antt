@@ -29,4 +29,4 @@ returns-in-Ok-clause-writes g c =
     (whole_of (g.S.Store.stable c.args.store.now) (g.S.Store.byte_count c.args.store.now) c.requires.mounted.size_is (g.met.S.Store.told_length c.args.store.now)) c.commit_node.result c.commit_node.ensures.pieces
 
 pub returns-in-Err-clause-writes : goal.returns-in-Err-clause-writes
-returns-in-Err-clause-writes g c = record { ok = tt; whole = inl c.in-Err.ensures.torn }
+returns-in-Err-clause-writes g c = record { ok = tt; stopped = inl c.in-Err.ensures.torn }

@@ -22,14 +22,14 @@ register-requires-clause-event g c = may_register c.args.loaded.now c.args.shelf
 
 pub returns-in_err-register-clause-carries : goal.returns-in_err-register-clause-carries
 returns-in_err-register-clause-carries g c = λ at timers mind here.
-    commit_stops c.tables_tell_states.ensures (memory g.S.Store c.args.store.now c.args.loaded.now) c.requires.may_run.mounted.agrees at (Register c.args.code) timers mind (with_code_committed c.args.shelf.0 c.args.code) (λ (rows : List Registration). with_code rows c.args.shelf.0 c.args.code) (registers_more c.args.shelf.0 c.args.code) (register_goes at _ c.args.shelf.0 here c.args.code c.requires.changes) (PutEvents c.args.shelf.0 c.in_err-register.ensures.writes.events) (puts_more c.args.loaded.now c.args.shelf.0 c.states_are_of_entries.ensures.tables c.states_are_of_entries.ensures.rows c.requires.may_run.row at.shelf here c.args.code c.in_err-register.ensures.writes.events c.in_err-register.ensures.writes.low c.in_err-register.ensures.writes.told) (memory g.S.Store c.register.new.store c.register.new.loaded) c.from_residual.result c.from_residual.ensures.0 c.in_err-register.ensures.kept c.in_err-register.ensures.committed.whole c.in_err-register.ensures.committed.commits c.in_err-register.ensures.writes.written_so.whole
+    commit_stops c.tables_tell_states.ensures (memory g.S.Store c.args.store.now c.args.loaded.now) c.requires.may_run.mounted.agrees at (Register c.args.code) timers mind (with_code_committed c.args.shelf.0 c.args.code) (λ (rows : List Registration). with_code rows c.args.shelf.0 c.args.code) (registers_more c.args.shelf.0 c.args.code) (register_goes at _ c.args.shelf.0 here c.args.code c.requires.changes) (PutEvents c.args.shelf.0 c.in_err-register.ensures.writes.events) (puts_more c.args.loaded.now c.args.shelf.0 c.states_are_of_entries.ensures.tables c.states_are_of_entries.ensures.rows c.requires.may_run.row at.shelf here c.args.code c.in_err-register.ensures.writes.events c.in_err-register.ensures.writes.low c.in_err-register.ensures.writes.codes_are) (memory g.S.Store c.register.new.store c.register.new.loaded) c.from_residual.result c.from_residual.ensures.0 c.in_err-register.ensures.kept c.in_err-register.ensures.committed.whole c.in_err-register.ensures.committed.commits c.in_err-register.ensures.writes.writes.whole
 
 pub returns-in_err-register-clause-table : goal.returns-in_err-register-clause-table
 returns-in_err-register-clause-table g c = rows_alone_differ c.args.loaded.now c.register.new.loaded c.args.loaded.now.rows c.in_err-register.ensures.kept
 
 pub returns-clause-carries : goal.returns-clause-carries
 returns-clause-carries g c = λ at timers mind here.
-    commit_stands c.tables_tell_states.ensures (memory g.S.Store c.args.store.now c.args.loaded.now) c.requires.may_run.mounted.agrees at (Register c.args.code) timers mind (with_code_committed c.args.shelf.0 c.args.code) (λ (rows : List Registration). with_code rows c.args.shelf.0 c.args.code) (registers_more c.args.shelf.0 c.args.code) (register_goes at _ c.args.shelf.0 here c.args.code c.requires.changes) (PutEvents c.args.shelf.0 c.in_ok-register.ensures.writes.events) (puts_more c.args.loaded.now c.args.shelf.0 c.states_are_of_entries.ensures.tables c.states_are_of_entries.ensures.rows c.requires.may_run.row at.shelf here c.args.code c.in_ok-register.ensures.writes.events c.in_ok-register.ensures.writes.low c.in_ok-register.ensures.writes.told) (memory g.S.Store c.register.new.store c.register.new.loaded) c.in_ok-register.ensures.committed.ok c.in_ok-register.ensures.committed.commits c.in_ok-register.ensures.writes.written_so.ok
+    commit_stands c.tables_tell_states.ensures (memory g.S.Store c.args.store.now c.args.loaded.now) c.requires.may_run.mounted.agrees at (Register c.args.code) timers mind (with_code_committed c.args.shelf.0 c.args.code) (λ (rows : List Registration). with_code rows c.args.shelf.0 c.args.code) (registers_more c.args.shelf.0 c.args.code) (register_goes at _ c.args.shelf.0 here c.args.code c.requires.changes) (PutEvents c.args.shelf.0 c.in_ok-register.ensures.writes.events) (puts_more c.args.loaded.now c.args.shelf.0 c.states_are_of_entries.ensures.tables c.states_are_of_entries.ensures.rows c.requires.may_run.row at.shelf here c.args.code c.in_ok-register.ensures.writes.events c.in_ok-register.ensures.writes.low c.in_ok-register.ensures.writes.codes_are) (memory g.S.Store c.register.new.store c.register.new.loaded) c.in_ok-register.ensures.committed.ok c.in_ok-register.ensures.committed.commits c.in_ok-register.ensures.writes.writes.ok
     (c.in_ok-register.ensures.rows ∙ registers_code (rows_alone c.args.loaded.now) c.args.shelf.0 c.args.code)
 
 pub returns-clause-table : goal.returns-clause-table
