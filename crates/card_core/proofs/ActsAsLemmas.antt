@@ -6,6 +6,7 @@ use Rattle.uicc_types.specs.declared.answers.StatusWord.{StatusWord}
 use Rattle.uicc_types.specs.declared.answers.TheConstants.StatusWord.{WRONG_LENGTH}
 use Rattle.apdu_form.specs.Model.{Apdu, command_in, cut_to}
 use Rattle.store_form.specs.declared.store.StoreFault.{StoreFault}
+use Rattle.card_state.specs.Changes.{Change}
 use Rattle.card_state.specs.Persistent.{Persistent}
 use Rattle.file_model.specs.Chains.{given, and_given}
 use Rattle.file_model.specs.declared.selections.Selection.{Selection}
@@ -20,24 +21,27 @@ use Rattle.card_core.specs.Cards.{card_with}
 use Rattle.card_core.specs.Commands.{by_instruction}
 use Rattle.card_core.specs.Known.{KnownBy, MayBeBy, SaysSo, Yields}
 use Rattle.card_core.specs.Parts.{CardParts}
+use Rattle.card_core.specs.Writing.{WritesChanges}
 use Rattle.card_core.proofs.CommandNamedLemmas.{ok_not_err, same_status, same_instruction, named_by}
 use Rattle.card_core.proofs.KnownLemmas.{when_ok, both_ok}
 
 -- ---- what comes to the same
 
 module _ {X : Type 0} (result : Result X StoreFault) (old new : CardParts) where
-  -- another answer that comes of the same, with the same card after it and the same commits
+  -- another answer that comes of the same, with the same card after it, the same commits and the same changes
   pub acts_then : (instruction : Instruction) (apdu : Apdu) (mid out : Answer) (comes after : CardState → Answered) (told retold : StatusWord → StatusWord)
       → ((state : Persistent) → (comes (card_with false old state)).state ≡ (after (card_with false old state)).state)
       → ((state : Persistent) → (comes (card_with false old state)).commits ≡ (after (card_with false old state)).commits)
+      → ((state : Persistent) → (comes (card_with false old state)).changes ≡ (after (card_with false old state)).changes)
       → ((by : KnownBy) (state : Persistent) → OnOk result (MayBeBy by new (comes (card_with false old state)).state) → OnOk result (SaysSo (comes (card_with false old state)) mid) → OnOk result (SaysSo (after (card_with false old state)) out))
       → ((status : StatusWord) → IsOk result × IsDenied (told status) mid old new → IsRefusedWith (retold status) out)
       → ActsOn result instruction apdu old new mid comes told → ActsOn result instruction apdu old new out after retold
-  acts_then instruction apdu mid out comes after told retold left commits says refused acts = record {
+  acts_then instruction apdu mid out comes after told retold left commits changes says refused acts = record {
     says = λ by state known answered. says by state ((acts.yields by state known).left answered) (acts.says by state known answered);
     yields = λ by state known.
         subst (λ (states : List Persistent). Yields result by instruction old new (card_with false old state) (after (card_with false old state)).state states) (commits state)
         (subst (λ (card : CardState). Yields result by instruction old new (card_with false old state) card (comes (card_with false old state)).commits) (left state) (acts.yields by state known));
+    writes = λ state held. subst (λ (list : List Change). WritesChanges result old new list) (changes state) (acts.writes state held);
     done = acts.done;
     denied = λ status is. (let gives = acts.denied status is in (gives.0, record { refused = refused status gives; stays = gives.1.stays }));
     moves = acts.moves;
@@ -47,6 +51,7 @@ module _ {X : Type 0} (result : Result X StoreFault) (old new : CardParts) where
       → ActsOn result instruction apdu old new out comes (λ status. status) → ActsOn result instruction apdu old new out after (λ status. status)
   acts_alike instruction apdu out comes after alike acts =
       acts_then instruction apdu out out comes after (λ status. status) (λ status. status) (λ state. ap (λ (each : Answered). each.state) (alike state)) (λ state. ap (λ (each : Answered). each.commits) (alike state))
+      (λ state. ap (λ (each : Answered). each.changes) (alike state))
       (λ by state may is. subst (λ (each : Answered). OnOk result (SaysSo each out)) (alike state) is) (λ status gives. gives.1.refused) acts
 
   -- ---- the instruction is named
@@ -129,6 +134,7 @@ module _ {X : Type 0} (result : Result X StoreFault) (old new : CardParts) (byte
     acts = λ instruction each found named.
         acts_then result old new instruction each mid out (λ card. settled card (by_instruction apdu card)) (λ card. settled card (tried is_known card bytes)) (λ word. word) (λ word. word)
         (λ state. ap (λ (came : Answered). came.state) (tried_cut (card_with false old state))) (λ state. ap (λ (came : Answered). came.commits) (tried_cut (card_with false old state)))
+        (λ state. ap (λ (came : Answered). came.changes) (tried_cut (card_with false old state)))
         (λ by state may says. both_ok result _ _ _ (cut_says (card_with false old state)) says cut) (λ word gives. refused_cut word gives.1.refused (when_ok result _ gives.0 cut))
         (does.acts instruction each (read ∙ found) (named_by old.channels bytes apdu read ∙ named));
     table = does.table;

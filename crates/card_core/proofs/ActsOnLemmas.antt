@@ -18,6 +18,7 @@ use Rattle.card_core.specs.AnyStore.{MayBe, MayStand, AnswersAs, AnswersStanding
 use Rattle.card_core.specs.Cards.{held_by, card_with}
 use Rattle.card_core.specs.Known.{KnownBy, ByStore, ByTable, ByMemory, IsKnown, IsAnsweredBy, IsCountedBy, IsCalmBy, CommitsSo, MayBeBy, SaysSo, IsLeftAt, StandsBy}
 use Rattle.card_core.specs.Parts.{CardParts}
+use Rattle.card_core.specs.Writing.{HasWritten, StopsWriting}
 use Rattle.card_core.proofs.KnownLemmas.{finished, stopped_by, both_ok, card_by, by_table, by_memory}
 
 answered_told : (answered : Answered) (out : Answer) (parts : CardParts) → SaysSo answered out → MayBeBy ByTable parts answered.state → AnswersAs answered out parts
@@ -85,39 +86,42 @@ module _ (instruction : Instruction) (apdu : Apdu) (old new : CardParts) (out : 
   abbrev came_on : Persistent → Answered
   came_on state = settled (card_with false old state) (carried_out instruction (card_with false old state) apdu)
 
-  module _ (stays : (state : Persistent) → held_by old ≡ Some state → (came_on state).commits ≡ [] → new.told ≡ old.told) where
-    -- it was carried out
-    module _ (done : Unit {0}) where
-      stands_done : (by : KnownBy) (state : Persistent) → IsKnown by old state → StandsBy by (finished done) old new (card_with false old state) (came_on state).commits
-      stands_done ByStore state known = record { stopped = tt; stable = stays state known }
-      stands_done ByTable state known = tt
-      stands_done ByMemory state known = tt
+  -- it was carried out
+  module _ (done : Unit {0}) where
+    stands_done : (by : KnownBy) (state : Persistent) → IsKnown by old state → StandsBy by (finished done) old new (card_with false old state) (came_on state).commits
+    stands_done ByStore state known = tt
+    stands_done ByTable state known = tt
+    stands_done ByMemory state known = tt
 
-      pub acts_done : ((by : KnownBy) (state : Persistent) → IsKnown by old state → IsAnsweredBy by instruction → SaysSo (came_on state) out × MayBeBy by new (came_on state).state)
-          → ((by : KnownBy) (state : Persistent) → IsKnown by old state → IsCountedBy by instruction → new.commits ≡ raised_by (length (came_on state).commits) old.commits)
-          → ((status : StatusWord) → RefusesByTable instruction old apdu status → IsDenied status out old new) → ActsAlone (Ok done) instruction apdu old new out
-      acts_done answers counted denied = record {
-        says = λ by state known needs. (answers by state known needs).0;
-        yields = λ by state known. record { left = λ needs. (answers by state known needs).1; commits_so = counted by state known; calm = λ calm none. refl; stands = stands_done by state known };
-        done = λ leaves. refl;
-        denied = λ status refused. (refl, denied status refused);
-        moves = moves;
-      }
+    pub acts_done : ((state : Persistent) → held_by old ≡ Some state → HasWritten (came_on state).changes old new)
+        → ((by : KnownBy) (state : Persistent) → IsKnown by old state → IsAnsweredBy by instruction → SaysSo (came_on state) out × MayBeBy by new (came_on state).state)
+        → ((by : KnownBy) (state : Persistent) → IsKnown by old state → IsCountedBy by instruction → new.commits ≡ raised_by (length (came_on state).commits) old.commits)
+        → ((status : StatusWord) → RefusesByTable instruction old apdu status → IsDenied status out old new) → ActsAlone (Ok done) instruction apdu old new out
+    acts_done writes answers counted denied = record {
+      says = λ by state known needs. (answers by state known needs).0;
+      yields = λ by state known. record { left = λ needs. (answers by state known needs).1; commits_so = counted by state known; calm = λ calm none. refl; stands = stands_done by state known };
+      writes = writes;
+      done = λ leaves. refl;
+      denied = λ status refused. (refl, denied status refused);
+      moves = moves;
+    }
 
-    -- a fault stopped it
-    module _ (fault : StoreFault) (left : (state : Persistent) → held_by old ≡ Some state → IsLeftAt old new (card_with false old state) (came_on state).commits) where
-      stands_stopped : (by : KnownBy) (state : Persistent) → IsKnown by old state → StandsBy by (stopped_by fault) old new (card_with false old state) (came_on state).commits
-      stands_stopped ByStore state known = record { stopped = left state known; stable = stays state known }
-      stands_stopped ByTable state known = tt
-      stands_stopped ByMemory state known = tt
+  -- a fault stopped it
+  module _ (fault : StoreFault) (left : (state : Persistent) → held_by old ≡ Some state → IsLeftAt old new (card_with false old state) (came_on state).commits) where
+    stands_stopped : (by : KnownBy) (state : Persistent) → IsKnown by old state → StandsBy by (stopped_by fault) old new (card_with false old state) (came_on state).commits
+    stands_stopped ByStore state known = left state known
+    stands_stopped ByTable state known = tt
+    stands_stopped ByMemory state known = tt
 
-      pub acts_stopped : ((by : KnownBy) (state : Persistent) → IsKnown by old state → IsCountedBy by instruction → CommitsAtMost (length (came_on state).commits) old.commits new.commits)
-          → ((by : KnownBy) (state : Persistent) → IsKnown by old state → IsCalmBy by instruction → (came_on state).commits ≡ [] → ⊥)
-          → (LeavesMemory instruction → ⊥) → ((status : StatusWord) → RefusesByTable instruction old apdu status → ⊥) → ActsAlone (stopped_by fault) instruction apdu old new out
-      acts_stopped counted calm done denied = record {
-        says = λ by state known needs. tt;
-        yields = λ by state known. record { left = λ needs. tt; commits_so = counted by state known; calm = λ is none. absurd (calm by state known is none); stands = stands_stopped by state known };
-        done = λ leaves. absurd (done leaves);
-        denied = λ status refused. absurd (denied status refused);
-        moves = moves;
-      }
+    pub acts_stopped : ((state : Persistent) → held_by old ≡ Some state → StopsWriting (came_on state).changes old new)
+        → ((by : KnownBy) (state : Persistent) → IsKnown by old state → IsCountedBy by instruction → CommitsAtMost (length (came_on state).commits) old.commits new.commits)
+        → ((by : KnownBy) (state : Persistent) → IsKnown by old state → IsCalmBy by instruction → (came_on state).commits ≡ [] → ⊥)
+        → (LeavesMemory instruction → ⊥) → ((status : StatusWord) → RefusesByTable instruction old apdu status → ⊥) → ActsAlone (stopped_by fault) instruction apdu old new out
+    acts_stopped writes counted calm done denied = record {
+      says = λ by state known needs. tt;
+      yields = λ by state known. record { left = λ needs. tt; commits_so = counted by state known; calm = λ is none. absurd (calm by state known is none); stands = stands_stopped by state known };
+      writes = writes;
+      done = λ leaves. absurd (done leaves);
+      denied = λ status refused. absurd (denied status refused);
+      moves = moves;
+    }

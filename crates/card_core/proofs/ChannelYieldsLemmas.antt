@@ -20,17 +20,19 @@ use Rattle.card_core.specs.Commands.{channels_managed}
 use Rattle.card_core.specs.Known.{KnownBy, ByStore, ByTable, ByMemory, IsKnown, MayBeBy, SaysSo}
 use Rattle.card_core.specs.Parts.{CardParts}
 use Rattle.card_core.proofs.ActsOnLemmas.{acts_done}
+use Rattle.card_core.proofs.WritingLemmas.{none_after}
 
 -- a number is answered where a channel was opened, and a refusal changes nothing
 abbrev pub Tells : Result (Option ℕ) StatusWord → Answer → List (Option Selection) → List (Option Selection) → Type 0
 Tells (Ok number) out old new = (out.body ≡ option_to_list number) × (out.status ≡ DONE)
 Tells (Err status) out old new = (out.body ≡ []) × (out.status ≡ status) × (new ≡ old)
 
--- the answer, the card after it, and that nothing is committed
+-- the answer, the card after it, and that nothing is committed nor changed
 record Manages (by : KnownBy) (new : CardParts) (out : Answer) (answered : Answered) : Type 0 where
   says : SaysSo answered out
   left : MayBeBy by new answered.state
   commits : answered.commits ≡ []
+  changes : answered.changes ≡ []
 
 module _ (apdu : Apdu) (old : CardParts) (channels : List (Option Selection)) (out : Answer) where
   abbrev new : CardParts
@@ -48,11 +50,13 @@ module _ (apdu : Apdu) (old : CardParts) (channels : List (Option Selection)) (o
     says = record { body = tells.0; status = tells.1 };
     left = record { known = kept by state known; channels = refl; verified = refl; session = refl; boxes = refl };
     commits = refl;
+    changes = refl;
   }
   managed_so by state known (Err status) tells = record {
     says = record { body = tells.0; status = tells.1 };
     left = record { known = kept by state known; channels = sym tells.2; verified = refl; session = refl; boxes = refl };
     commits = refl;
+    changes = refl;
   }
 
   channels_move : MovesChannels old new
@@ -65,5 +69,5 @@ module _ (apdu : Apdu) (old : CardParts) (channels : List (Option Selection)) (o
       let each : (by : KnownBy) (state : Persistent) → IsKnown by old state → Manages by new out (settled (card_with false old state) (carried_out ManageChannel (card_with false old state) apdu)) =
       λ by state known.
       subst (λ (came : Result ChannelOutcome StatusWord). Manages by new out (settled (card_with false old state) (managed (card_with false old state) came))) (sym tried) (managed_so by state known result tells) in
-      acts_done ManageChannel apdu old new out channels_move (λ state held none. refl) tt (λ by state known needs. ((each by state known).says, (each by state known).left))
+      acts_done ManageChannel apdu old new out channels_move tt (λ state held. none_after old new (settled (card_with false old state) (carried_out ManageChannel (card_with false old state) apdu)).changes (each ByStore state held).changes refl) (λ by state known needs. ((each by state known).says, (each by state known).left))
       (λ by state known counts. ap (λ (states : List Persistent). raised_by (length states) old.commits) (sym (each by state known).commits)) (λ status refused. absurd refused)

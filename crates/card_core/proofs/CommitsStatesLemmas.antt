@@ -1,14 +1,17 @@
--- How often a whole command commits, over a store that tells its bytes.
-use Rattle.std.proofs.Common.{◌≡◌, ℕ, Bool, true, false, List, [], length, Option, Some, None, Result, ◌∙◌, ap, subst, IfSome, option_map}
+-- How often a whole command commits and what it writes, over a store that tells its bytes.
+use Rattle.std.proofs.Common.{◌≡◌, ℕ, Bool, true, false, List, length, Option, Some, None, Result, ◌∙◌, ap, subst, IfSome, option_map}
 use Rattle.std.proofs.lemmas.Result.{on_ok_weaker, on_err_weaker}
 use Rattle.uicc_types.specs.Counts.{raised_by}
 use Rattle.store_form.specs.declared.store.StoreFault.{StoreFault}
+use Rattle.card_state.specs.Changes.{Change}
 use Rattle.card_state.specs.Persistent.{Persistent}
 use Rattle.card_model.specs.States.{CardState, woken}
 use Rattle.card_core.specs.Cards.{card_with, card_of, held_by}
 use Rattle.card_core.specs.Moves.{CommitsStates, StopsAt}
 use Rattle.card_core.specs.Parts.{CardParts}
+use Rattle.card_core.specs.Writing.{WritesChanges}
 use Rattle.card_core.proofs.StopsAtLemmas.{stops_none}
+use Rattle.card_core.proofs.WritingLemmas.{writes_from}
 
 if_each : {X : Type 0} (o : Option X) (P Q : X → Type 0) → ((x : X) → P x → Q x) → IfSome o P → IfSome o Q
 if_each None P Q each holds = tt
@@ -18,9 +21,9 @@ pub if_any : {X : Type 0} (o : Option X) (P : X → Type 0) → ((x : X) → P x
 if_any None P each = tt
 if_any (Some x) P each = each x
 
--- what is due commits nothing, and leaves the bytes
-pub counts_from : {X : Type 0} (result : Result X StoreFault) (old mid new : CardParts) (passed : CardState → List Persistent) → card_of mid ≡ card_of old → mid.commits ≡ old.commits → mid.told ≡ old.told → CommitsStates result mid new passed → CommitsStates result old new passed
-counts_from result old mid new passed same counted told counts = record {
+-- what is due commits nothing
+pub counts_from : {X : Type 0} (result : Result X StoreFault) (old mid new : CardParts) (passed : CardState → List Persistent) → card_of mid ≡ card_of old → mid.commits ≡ old.commits → CommitsStates result mid new passed → CommitsStates result old new passed
+counts_from result old mid new passed same counted counts = record {
   commits =
       on_ok_weaker result
       (λ commits.
@@ -35,11 +38,14 @@ counts_from result old mid new passed same counted told counts = record {
       (λ card is. subst (λ (count : ℕ). StopsAt card.persistent (passed card) count new.commits (held_by new)) counted is)
       (subst (λ (found : Option CardState). IfSome found (λ card. StopsAt card.persistent (passed card) mid.commits new.commits (held_by new))) same stopped))
       counts.stopped;
-  stable =
-      if_each (card_of old) (λ card. passed card ≡ [] → new.told ≡ mid.told) (λ card. passed card ≡ [] → new.told ≡ old.told)
-      (λ card stays none. stays none ∙ told)
-      (subst (λ (found : Option CardState). IfSome found (λ card. passed card ≡ [] → new.told ≡ mid.told)) same counts.stable);
 }
+
+-- and leaves the bytes
+pub writes_due : {X : Type 0} (result : Result X StoreFault) (old mid new : CardParts) (changes : CardState → List Change) → card_of mid ≡ card_of old → mid.commits ≡ old.commits → mid.told ≡ old.told
+    → IfSome (card_of mid) (λ card. WritesChanges result mid new (changes card)) → IfSome (card_of old) (λ card. WritesChanges result old new (changes card))
+writes_due result old mid new changes same counted told writes =
+    if_each (card_of old) (λ card. WritesChanges result mid new (changes card)) (λ card. WritesChanges result old new (changes card)) (λ card. writes_from result old mid new (changes card) told counted)
+    (subst (λ (found : Option CardState). IfSome found (λ card. WritesChanges result mid new (changes card))) same writes)
 
 -- where nothing moved, nothing was done
 pub stops_unmoved : (old new : CardParts) (passed : CardState → List Persistent) → new.commits ≡ old.commits → held_by new ≡ held_by old

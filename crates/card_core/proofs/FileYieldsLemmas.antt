@@ -10,6 +10,7 @@ use Rattle.apdu_form.specs.Classes.{channel_of}
 use Rattle.apdu_form.specs.Model.{Apdu}
 use Rattle.store_form.specs.declared.store.StoreFault.{StoreFault}
 use Rattle.card_state.specs.declared.entries.Loaded.{Loaded}
+use Rattle.card_state.specs.Changes.{Change}
 use Rattle.card_state.specs.Persistent.{Persistent}
 use Rattle.card_state.specs.States.{pins_of}
 use Rattle.access_rules.specs.declared.rules.Verified.{Verified}
@@ -23,7 +24,7 @@ use Rattle.file_model.specs.declared.commands.FileCommand.TheVariants.{Select, S
 use Rattle.file_model.specs.declared.selections.Selection.{Selection}
 use Rattle.file_model.specs.declared.selections.TheConstants.Selection.{AT_START}
 use Rattle.card_commits.specs.Laws.{IsTold, TablesTellStates}
-use Rattle.card_commits.specs.Performing.{IsOutcome, IsStopped, Performs, StaysStill}
+use Rattle.card_commits.specs.Performing.{IsOutcome, IsStopped, Performs, WritesAll}
 use Rattle.card_model.specs.Answers.{Answered, settled, carried_out, file_tried, selection_on, seen_by}
 use Rattle.card_model.specs.States.{CardState}
 use Rattle.card_model.specs.declared.instructions.Instruction.TheVariants.{File}
@@ -35,6 +36,7 @@ use Rattle.card_core.specs.Known.{KnownBy, ByStore, ByTable, ByMemory, IsKnown, 
 use Rattle.card_core.specs.Laws.{TablesHaveRows}
 use Rattle.card_core.specs.Parts.{CardParts}
 use Rattle.card_core.specs.Serving.{TellsOfFiles}
+use Rattle.card_core.specs.Writing.{HasWritten, StopsWriting}
 use Rattle.card_core.proofs.ActsOnLemmas.{acts_done, acts_stopped}
 use Rattle.card_core.proofs.IsLeftLemmas.{left_once}
 use Rattle.card_core.proofs.IsRunningLemmas.{some_told, in_order}
@@ -42,6 +44,7 @@ use Rattle.card_core.proofs.KnownLemmas.{told_by, sees_by, finished, stopped_by}
 use Rattle.card_core.proofs.MovesItsOwnLemmas.{status_kept}
 use Rattle.card_core.proofs.SettledFileLemmas.{files_once}
 use Rattle.card_core.proofs.StopsAtLemmas.{no_commits}
+use Rattle.card_core.proofs.WritingLemmas.{written_at, stopped_at}
 
 -- ---- what it is tried on
 
@@ -54,6 +57,11 @@ pub commits_are : (card : CardState) (apdu : Apdu) (selection : Selection) (trie
 unfolding and_given
 commits_are card apdu selection (Ok outcome) = refl
 commits_are card apdu selection (Err status) = refl
+
+changes_are : (card : CardState) (apdu : Apdu) (selection : Selection) (tried : Result FileOutcome StatusWord) → (settled_file selection tried).changes ≡ (settled card (file_tried card apdu tried)).changes
+unfolding and_given
+changes_are card apdu selection (Ok outcome) = refl
+changes_are card apdu selection (Err status) = refl
 
 -- what was selected is put back
 pub put_back : (channels : List (Option Selection)) (channel : ℕ) (selection : Selection) → selected_on channels channel ≡ Some selection → slice_set channels channel (Some selection) ≡ channels
@@ -143,15 +151,16 @@ module _ (command : FileCommand) (apdu : Apdu) (old new : CardParts) (selection 
     passed_is state told =
         sym (commits_are (card_with false old state) apdu selection (file_outcome command state seen selection apdu)) ∙ ap (λ (each : Answered). each.commits) (tried_is state told)
 
-    module _ (moves : MovesItsOwn (File command) apdu old new)
-        (still : StaysStill (record (memory_of old) { table = table }) (memory_of new) (λ state. (outcome_on state).passed)) where
-      stays : (state : Persistent) → held_by old ≡ Some state → (came_on state).commits ≡ [] → new.told ≡ old.told
-      stays state held none =
-          if_some_at (held_by old) (λ each. (outcome_on each).passed ≡ [] → new.told ≡ old.told) state still held (passed_is state (told ByStore state held) ∙ none)
+    -- and changes what the card does
+    changes_by : (state : Persistent) → held_by old ≡ Some state → (outcome_on state).changes ≡ (came_on state).changes
+    changes_by state held =
+        changes_are (card_with false old state) apdu selection (file_outcome command state seen selection apdu) ∙ ap (λ (each : Answered). each.changes) (tried_is state (told ByStore state held))
 
+    module _ (moves : MovesItsOwn (File command) apdu old new) where
       module _ (done : Unit {0}) (has : HasSelected old new (channel_of apdu.class) next)
           (performs : Performs (finished done) (record (memory_of old) { table = table }) (memory_of new) out next outcome_on)
-          (tells : TellsOfFiles (Ok done) command apdu old.verified (record (memory_of old) { table = table }) (memory_of new) selection next out) where
+          (tells : TellsOfFiles (Ok done) command apdu old.verified (record (memory_of old) { table = table }) (memory_of new) selection next out)
+          (writes : WritesAll (finished done) (record (memory_of old) { table = table }) (memory_of new) (λ state. (outcome_on state).changes)) where
         answered : (by : KnownBy) (state : Persistent) → IsKnown by old state → IsAnsweredBy by (File command) → IsFileAnswer by old new state (outcome_on state) out next
         answered ByStore state known needs =
             let is = if_some_at (held_by old) (λ each. IsOutcome each (outcome_on each) out next (record (memory_of old) { table = table }) (memory_of new)) state performs known in
@@ -174,7 +183,8 @@ module _ (command : FileCommand) (apdu : Apdu) (old new : CardParts) (selection 
 
         pub files_act : ((status : StatusWord) → RefusesByTable (File command) old apdu status → IsDenied status out old new) → ActsAlone (Ok done) (File command) apdu old new out
         files_act denied =
-            acts_done (File command) apdu old new out moves stays done answers_files
+            acts_done (File command) apdu old new out moves done
+            (λ state held. subst (λ (changes : List Change). HasWritten changes old new) (changes_by state held) (written_at done old new table (λ each. (outcome_on each).changes) state held writes)) answers_files
             (λ by state known counted.
             (answered by state known (counted_answered by command counted)).commits ∙ ap (λ (states : List Persistent). raised_by (length states) old.commits) (passed_is state (told by state known)))
             denied
@@ -183,7 +193,8 @@ module _ (command : FileCommand) (apdu : Apdu) (old new : CardParts) (selection 
 
       module _ (fault : StoreFault) (law : CommandsLeaveRows) (stays_there : new.leaving ≡ None) (boxes : new.boxes ≡ old.boxes)
           (stopped : IsStopped (record (memory_of old) { table = table }) (memory_of new) (λ state. (outcome_on state).passed))
-          (tells : TellsOfFiles (Err fault) command apdu old.verified (record (memory_of old) { table = table }) (memory_of new) selection next out) where
+          (tells : TellsOfFiles (Err fault) command apdu old.verified (record (memory_of old) { table = table }) (memory_of new) selection next out)
+          (writes : WritesAll (stopped_by fault) (record (memory_of old) { table = table }) (memory_of new) (λ state. (outcome_on state).changes)) where
         never : (state : Persistent) → IsTold old.table state → NeedsNoContents (File command) → ⊥
         never state told needs = false≢true (tells.answers state needs (subst (λ (each : Loaded). IsTold each state) (sym same) told)).0
 
@@ -201,5 +212,6 @@ module _ (command : FileCommand) (apdu : Apdu) (old new : CardParts) (selection 
 
         pub files_stopped : ((status : StatusWord) → RefusesByTable (File command) old apdu status → ⊥) → ActsAlone (stopped_by fault) (File command) apdu old new out
         files_stopped denied =
-            acts_stopped (File command) apdu old new out moves stays fault left_there (λ by state known counted. no_commits (length (came_on state).commits) old.commits new.commits stopped.commits) calm
+            acts_stopped (File command) apdu old new out moves fault left_there
+            (λ state held. subst (λ (changes : List Change). StopsWriting changes old new) (changes_by state held) (stopped_at fault old new table new.table (λ each. (outcome_on each).changes) state held writes)) (λ by state known counted. no_commits (length (came_on state).commits) old.commits new.commits stopped.commits) calm
             (λ leaves. (let some = some_told tell old.store_mark old.told old.table running.mounted.agrees in never some.0 some.1 (leaves_need command leaves))) denied

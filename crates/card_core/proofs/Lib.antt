@@ -40,3 +40,4 @@ mod ToldPendingLemmas
 mod ToolkitYieldsLemmas
 mod TreeYieldsLemmas
 mod WokenBesideLemmas
+mod WritingLemmas

@@ -3,22 +3,23 @@ use Rattle.std.proofs.Common.{◌≡◌, ℕ, ◌+◌, arith, false, List, [], �
 use Rattle.std.proofs.lemmas.Bool.{false≢true}
 use Rattle.std.proofs.lemmas.List.{length-map}
 use Rattle.list_laws.proofs.IfSomeLemmas.{if_some_at}
-use Rattle.list_laws.proofs.MapLemmas.{nil_mapped}
 use Rattle.uicc_types.specs.Counts.{raised_by}
 use Rattle.uicc_types.specs.declared.answers.Answer.{Answer}
 use Rattle.uicc_types.specs.declared.answers.StatusWord.{StatusWord}
 use Rattle.apdu_form.specs.Model.{Apdu}
 use Rattle.store_form.specs.declared.store.StoreFault.{StoreFault}
 use Rattle.card_state.specs.declared.entries.Loaded.{Loaded}
+use Rattle.card_state.specs.Changes.{Change}
 use Rattle.card_state.specs.Persistent.{Pin, Persistent}
 use Rattle.card_state.specs.States.{pins_of}
 use Rattle.file_model.specs.Chains.{and_given}
-use Rattle.file_model.specs.Commands.{pin_outcome, pin_settled}
+use Rattle.file_model.specs.Commands.{first_fields, second_fields, pin_outcome, pin_settled}
 use Rattle.file_model.specs.Files.{descriptors_in}
 use Rattle.file_model.specs.Outcomes.{PinOutcome, settled_pin, last_of}
+use Rattle.file_model.specs.Pins.{pins_put}
 use Rattle.file_model.specs.declared.commands.PinCommand.{PinCommand}
 use Rattle.card_commits.specs.Laws.{IsTold, TablesTellStates}
-use Rattle.card_commits.specs.Performing.{CommitsAtMost, IsPinOutcome, PerformsPin, with_each}
+use Rattle.card_commits.specs.Performing.{CommitsAtMost, IsPinOutcome, PerformsPin, WritesAll, with_each}
 use Rattle.pin_rules.specs.Outcomes.{IsCarriedOut, IsPinCutShort, state_after}
 use Rattle.card_model.specs.Answers.{Answered, settled, carried_out, with_pins, pin_tried}
 use Rattle.card_model.specs.States.{CardState}
@@ -32,12 +33,14 @@ use Rattle.card_core.specs.Known.{KnownBy, ByStore, ByTable, ByMemory, IsKnown, 
 use Rattle.card_core.specs.Laws.{TablesHaveRows}
 use Rattle.card_core.specs.Moves.{StopsAt}
 use Rattle.card_core.specs.Parts.{CardParts}
+use Rattle.card_core.specs.Writing.{HasWritten, StopsWriting}
 use Rattle.card_core.proofs.ActsOnLemmas.{acts_done, acts_stopped}
 use Rattle.card_core.proofs.IsLeftLemmas.{fault_left}
 use Rattle.card_core.proofs.IsRunningLemmas.{in_order}
 use Rattle.card_core.proofs.IsSetLemmas.{rows_beside_pins, files_beside_pins}
 use Rattle.card_core.proofs.KnownLemmas.{told_by, finished, stopped_by}
 use Rattle.card_core.proofs.StopsAtLemmas.{stops_between, stands_there}
+use Rattle.card_core.proofs.WritingLemmas.{written_at, stopped_at}
 
 carried_on_pins : (command : PinCommand) (card : CardState) (apdu : Apdu) → carried_out (OnPins command) card apdu ≡ pin_tried card command apdu.p2 (pin_outcome command card.persistent.pins card.verified apdu)
 unfolding carried_out
@@ -90,6 +93,12 @@ module _ (command : PinCommand) (apdu : Apdu) (old new : CardParts) (out : Answe
   pin_commits card (Ok outcome) = refl
   pin_commits card (Err status) = refl
 
+  pin_changes : (card : CardState) (tried : Result PinOutcome StatusWord)
+      → pins_put (first_fields command) (second_fields command) apdu.p2 (settled_pin card.verified tried).passed ≡ (settled card (pin_tried card command apdu.p2 tried)).changes
+  unfolding and_given
+  pin_changes card (Ok outcome) = refl
+  pin_changes card (Err status) = refl
+
   abbrev came_on : Persistent → Answered
   came_on state = settled (card_with false old state) (carried_out (OnPins command) (card_with false old state) apdu)
 
@@ -104,20 +113,25 @@ module _ (command : PinCommand) (apdu : Apdu) (old new : CardParts) (out : Answe
   unfolding pin_settled
   passed_is state = pin_commits (card_with false old state) (pin_outcome command state.pins old.verified apdu) ∙ ap (λ (each : Answered). each.commits) (tried_is state)
 
+  -- and change what it does
+  abbrev puts : Persistent → List Change
+  puts state = pins_put (first_fields command) (second_fields command) apdu.p2 (outcome_by state.pins).passed
+
+  changes_by : (state : Persistent) → puts state ≡ (came_on state).changes
+  unfolding pin_settled
+  changes_by state = pin_changes (card_with false old state) (pin_outcome command state.pins old.verified apdu) ∙ ap (λ (each : Answered). each.changes) (tried_is state)
+
   long_is : (state : Persistent) → length (outcome_by state.pins).passed ≡ length (came_on state).commits
   long_is state = sym (length-map (outcome_by state.pins).passed (with_pins state)) ∙ ap (λ (states : List Persistent). length states) (passed_is state)
 
-  module _ (tell : TablesTellStates) (running : IsRunning old) (table : Loaded) (same : table ≡ old.table) (moves : MovesPins old new) (still : (outcome_by (pins_of table)).passed ≡ [] → new.told ≡ old.told) where
+  module _ (tell : TablesTellStates) (running : IsRunning old) (table : Loaded) (same : table ≡ old.table) (moves : MovesPins old new) where
     pins_are : (by : KnownBy) (state : Persistent) → IsKnown by old state → pins_of table ≡ state.pins
     pins_are by state known = ap pins_of same ∙ sym (told_by tell old running.mounted.agrees by state known).pins
 
-    stays : (state : Persistent) → held_by old ≡ Some state → (came_on state).commits ≡ [] → new.told ≡ old.told
-    stays state held none =
-        still (ap (λ (pins : List Pin). (outcome_by pins).passed) (pins_are ByStore state held) ∙ nil_mapped (with_pins state) (outcome_by state.pins).passed (passed_is state ∙ none))
-
     module _ (done : Unit {0}) (has : HasMarks old new) (body : out.body ≡ [])
         (performs : PerformsPin (finished done) (record (memory_of old) { table = table }) (memory_of new) out new.verified (λ state. outcome_by state.pins))
-        (comes : IsCarriedOut (outcome_by (pins_of table)) (pins_of table) out.status new.verified (pins_of new.table)) where
+        (comes : IsCarriedOut (outcome_by (pins_of table)) (pins_of table) out.status new.verified (pins_of new.table))
+        (writes : WritesAll (finished done) (record (memory_of old) { table = table }) (memory_of new) puts) where
       held_outcome : (state : Persistent) → held_by old ≡ Some state → IsPinOutcome state (outcome_by state.pins) out new.verified (record (memory_of old) { table = table }) (memory_of new)
       held_outcome state held =
           if_some_at (held_by old) (λ each. IsPinOutcome each (outcome_by each.pins) out new.verified (record (memory_of old) { table = table }) (memory_of new)) state performs held
@@ -145,13 +159,15 @@ module _ (command : PinCommand) (apdu : Apdu) (old new : CardParts) (out : Answe
           subst (λ (each : Answered). SaysSo each out × MayBeBy by new each.state) (tried_is state) (pin_answers by state (pin_outcome command state.pins old.verified apdu) has (answered by state known needs))
 
       pub pins_act : ((status : StatusWord) → RefusesByTable (OnPins command) old apdu status → IsDenied status out old new) → ActsAlone (Ok done) (OnPins command) apdu old new out
-      pins_act denied = acts_done (OnPins command) apdu old new out moves stays done answers_pins counted denied
+      pins_act denied =
+          acts_done (OnPins command) apdu old new out moves done (λ state held. subst (λ (changes : List Change). HasWritten changes old new) (changes_by state) (written_at done old new table puts state held writes)) answers_pins counted denied
 
     -- ---- once a fault stopped it
 
     module _ (rows : TablesHaveRows) (law : CommandsLeaveRows) (fault : StoreFault) (stays_there : new.leaving ≡ None) (now : Loaded)
         (performs : PerformsPin (stopped_by fault) (record (memory_of old) { table = table }) (record (memory_of new) { table = now }) out new.verified (λ state. outcome_by state.pins))
-        (stops : IsPinCutShort (outcome_by (pins_of table)) (record (memory_of old) { table = table }) (record (memory_of new) { table = now }) old.verified new.verified) where
+        (stops : IsPinCutShort (outcome_by (pins_of table)) (record (memory_of old) { table = table }) (record (memory_of new) { table = now }) old.verified new.verified)
+        (writes : WritesAll (stopped_by fault) (record (memory_of old) { table = table }) (record (memory_of new) { table = now }) puts) where
       left_there : (state : Persistent) → held_by old ≡ Some state → IsLeftAt old new (card_with false old state) (came_on state).commits
       left_there state held =
           let passed : List (List Pin) = (outcome_by (pins_of table)).passed in
@@ -181,4 +197,6 @@ module _ (command : PinCommand) (apdu : Apdu) (old new : CardParts) (out : Answe
       calm ByMemory state known of_tree none = false≢true of_tree
 
       pub pins_stopped : ((status : StatusWord) → RefusesByTable (OnPins command) old apdu status → ⊥) → ActsAlone (stopped_by fault) (OnPins command) apdu old new out
-      pins_stopped denied = acts_stopped (OnPins command) apdu old new out moves stays fault left_there at_most calm (λ leaves. leaves) denied
+      pins_stopped denied =
+          acts_stopped (OnPins command) apdu old new out moves fault left_there (λ state held. subst (λ (changes : List Change). StopsWriting changes old new) (changes_by state) (stopped_at fault old new table now puts state held writes)) at_most calm
+          (λ leaves. leaves) denied

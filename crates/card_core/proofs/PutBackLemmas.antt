@@ -68,7 +68,7 @@ pub yields_restored : (old mid : CardParts) (table : Loaded) (fault : StoreFault
 unfolding card_due
 yields_restored old mid table fault by instruction card after commits yields = record { left = λ needs. tt; commits_so = yields.commits_so; calm = yields.calm; stands = stood by yields.stands } where
   stood : (each : KnownBy) → StandsBy each (stopped_by fault) old mid card commits → StandsBy each (stopped_by fault) old (record mid { table = table }) card commits
-  stood ByStore stands = record { stopped = record { left = stands.stopped.left; stops = stands.stopped.stops }; stable = stands.stable }
+  stood ByStore stands = record { left = stands.left; stops = stands.stops }
   stood ByTable stands = tt
   stood ByMemory stands = tt
 

@@ -1,5 +1,5 @@
--- A command on files, or one that makes, deletes or resizes one, commits once at most.
-use Rattle.std.proofs.Common.{◌≤◌, ℕ, Bool, true, false, if◌then◌else◌, List, [], ◌∷◌, length, Option, Result, Ok, Err, arith, MatchResult}
+-- A command on files, or one that makes, deletes or resizes one, commits once at most; one that reads changes nothing.
+use Rattle.std.proofs.Common.{◌≤◌, ℕ, Bool, true, false, if◌then◌else◌, List, [], ◌∷◌, length, Option, Result, Ok, Err, refl, ◌≡◌, arith, MatchResult}
 use Rattle.uicc_types.specs.declared.answers.StatusWord.{StatusWord}
 use Rattle.apdu_form.specs.Model.{Apdu}
 use Rattle.card_state.specs.Persistent.{Persistent}
@@ -61,6 +61,51 @@ module _ (state : Persistent) (seen : Verified) (selection : Selection) (apdu : 
 
   pub files_once : (command : FileCommand) → length (settled_file selection (file_outcome command state seen selection apdu)).passed ≤ 1
   files_once command = settled_once (file_outcome command state seen selection apdu) (by_files command)
+
+-- ---- what changes nothing
+
+abbrev ChangesNone : FileOutcome → Type 0
+ChangesNone outcome = outcome.changes ≡ []
+
+-- READ BINARY, READ RECORD and SEARCH RECORD, SELECT and STATUS
+abbrev pub IsReading : ContentsCommand → Type 0
+IsReading ReadBinary = Unit {0}
+IsReading ReadRecord = Unit {0}
+IsReading SearchRecord = Unit {0}
+IsReading _ = ⊥
+
+abbrev pub IsTelling : FileCommand → Type 0
+IsTelling Select = Unit {0}
+IsTelling Status = Unit {0}
+IsTelling _ = ⊥
+
+module _ (state : Persistent) (seen : Verified) (selection : Selection) (apdu : Apdu) where
+  settled_none : (outcome : Result FileOutcome StatusWord) → MatchResult outcome ChangesNone Any → (settled_file selection outcome).changes ≡ []
+  settled_none (Ok outcome) none = none
+  settled_none (Err status) none = refl
+
+  none_read : (command : ContentsCommand) → IsReading command → MatchResult (contents_outcome command state seen selection apdu) ChangesNone Any
+  unfolding contents_outcome binary_read read_from reading record_read record_read_from record_reading searched search_in searching
+  none_read ReadBinary reads = past_result ChangesNone _ _ (λ file. past ChangesNone _ _ _ (past ChangesNone _ _ _ refl))
+  none_read ReadRecord reads = past_result ChangesNone _ _ (λ file. past ChangesNone _ _ _ (past_result ChangesNone _ _ (λ number. refl)))
+  none_read SearchRecord reads = past_result ChangesNone _ _ (λ file. past ChangesNone _ _ _ (past_result ChangesNone _ _ (λ number. refl)))
+  none_read UpdateBinary reads = absurd reads
+  none_read UpdateRecord reads = absurd reads
+  none_read Increase reads = absurd reads
+  none_read Deactivate reads = absurd reads
+  none_read Activate reads = absurd reads
+
+  none_told : (command : FileCommand) → IsTelling command → MatchResult (file_outcome command state seen selection apdu) ChangesNone Any
+  unfolding file_outcome file_selected selecting status_told telling
+  none_told Select tells = past ChangesNone _ _ _ (past ChangesNone _ _ _ (past_given ChangesNone _ _ _ (λ file. refl)))
+  none_told Status tells = past ChangesNone _ _ _ (past ChangesNone _ _ _ (past_given ChangesNone _ _ _ (λ df. refl)))
+  none_told (Contents command) tells = absurd tells
+
+  pub reading_changes : (command : ContentsCommand) → IsReading command → (settled_file selection (contents_outcome command state seen selection apdu)).changes ≡ []
+  reading_changes command reads = settled_none (contents_outcome command state seen selection apdu) (none_read command reads)
+
+  pub telling_changes : (command : FileCommand) → IsTelling command → (settled_file selection (file_outcome command state seen selection apdu)).changes ≡ []
+  telling_changes command tells = settled_none (file_outcome command state seen selection apdu) (none_told command tells)
 
 module _ (state : Persistent) (seen : Verified) (channels : List (Option Selection)) (channel : ℕ) (apdu : Apdu) where
   by_tree : (command : TreeCommand) → MatchResult (tree_outcome command state seen channels channel apdu) TreesOnce Any

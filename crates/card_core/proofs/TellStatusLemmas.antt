@@ -1,5 +1,5 @@
 -- STATUS, of which the applets are told.
-use Rattle.std.proofs.Common.{◌≡◌, ◌⊎◌, inl, inr, ◌==◌, ℕ, Contains, true, false, List, [], ◌∷◌, ◌++◌, Option, Some, None, Result, Ok, Err, refl, sym, ◌∙◌, ap, subst, IsSomeAnd, MatchResult, OnOk}
+use Rattle.std.proofs.Common.{◌≡◌, ◌⊎◌, inl, inr, ◌==◌, ℕ, Contains, true, false, List, [], ◌∷◌, ◌++◌, Option, Some, None, option_map, Result, Ok, Err, refl, sym, ◌∙◌, ap, subst, IsSomeAnd, MatchResult, OnOk}
 use Rattle.std.proofs.lemmas.Bool.{false≢true, true≢false}
 use Rattle.std.proofs.lemmas.Result.{on_err_weaker}
 use Rattle.uicc_types.specs.declared.answers.Answer.{Answer}
@@ -7,7 +7,10 @@ use Rattle.uicc_types.specs.declared.answers.StatusWord.{StatusWord}
 use Rattle.uicc_types.specs.declared.answers.TheConstants.StatusWord.{DONE}
 use Rattle.apdu_form.specs.Model.{Apdu}
 use Rattle.store_form.specs.declared.store.StoreFault.{StoreFault}
+use Rattle.card_state.specs.Changes.{Change}
 use Rattle.card_state.specs.Persistent.{Persistent}
+use Rattle.card_commits.specs.Writing.{all_written}
+use Rattle.card_commits.proofs.WritesAllLemmas.{none_written}
 use Rattle.file_model.specs.Chains.{and_given}
 use Rattle.file_model.specs.Outcomes.{FileOutcome, last_of}
 use Rattle.file_model.specs.Selecting.{status_told, telling}
@@ -25,15 +28,17 @@ use Rattle.card_core.specs.Cards.{card_with, card_due, held_by}
 use Rattle.card_core.specs.Known.{KnownBy, ByStore, ByTable, ByMemory, IsKnown, IsAnsweredBy, SaysSo, IsLeftAt, StandsBy, Yields}
 use Rattle.card_core.specs.Moves.{StopsAt, polled_on}
 use Rattle.card_core.specs.Parts.{CardParts}
-use Rattle.card_core.proofs.KnownLemmas.{card_by, finished}
+use Rattle.card_core.specs.Writing.{HasWritten, WritesChanges}
+use Rattle.card_core.proofs.KnownLemmas.{card_by}
 use Rattle.card_core.proofs.MovesItsOwnLemmas.{status_moved}
 use Rattle.card_core.proofs.StopsAtLemmas.{so_from}
+use Rattle.card_core.proofs.WritingLemmas.{writes_from}
 
 -- ---- whether it was done
 
--- it commits nothing, and is done
+-- it commits nothing, is done, and changes nothing
 abbrev IsDone : FileOutcome → Type 0
-IsDone outcome = (outcome.passed ≡ []) × (outcome.status ≡ DONE)
+IsDone outcome = (outcome.passed ≡ []) × (outcome.status ≡ DONE) × (outcome.changes ≡ [])
 
 abbrev IsOther : StatusWord → Type 0
 IsOther status = (status.0 == DONE.0) ≡ false
@@ -41,12 +46,13 @@ IsOther status = (status.0 == DONE.0) ≡ false
 status_is : (state : Persistent) (selection : Selection) (apdu : Apdu) → MatchResult (status_told state selection apdu) IsDone IsOther
 unfolding status_told telling
 status_is state selection apdu =
-    unless_so IsDone IsOther _ _ _ refl (λ _. unless_so IsDone IsOther _ _ _ refl (λ _. given_so IsDone IsOther _ _ _ refl (λ file _. (refl, refl))))
+    unless_so IsDone IsOther _ _ _ refl (λ _. unless_so IsDone IsOther _ _ _ refl (λ _. given_so IsDone IsOther _ _ _ refl (λ file _. (refl, refl, refl))))
 
 -- Carried out it is done, and leaves what is held for good, the boxes, the rows and the session; it is refused with another status.
 pub record IsTelling (card : CardState) (apdu : Apdu) (answered : Answered) : Type 0 where
   pub status : answered.status ≡ DONE
   pub commits : answered.commits ≡ []
+  pub changes : answered.changes ≡ []
   pub persistent : answered.state.persistent ≡ card.persistent
   pub boxes : answered.state.boxes ≡ card.boxes
   pub carried : settled card (carried_with true (File Status) card apdu) ≡ then_polled answered
@@ -64,6 +70,7 @@ unfolding TellsOrNot carried_out and_given file_outcome
 by_outcome card apdu (Ok outcome) is done = inl (record {
   status = done.1;
   commits = done.0;
+  changes = done.2;
   persistent = ap (λ (passed : List Persistent). last_of card.persistent passed) done.0;
   boxes = refl;
   carried = sym (ap (λ came. settled card (and_given (file_tried card apdu came) (λ answered. Ok (then_polled answered)))) is);
@@ -109,14 +116,11 @@ module _ (apdu : Apdu) where
       stops = subst (λ (count : ℕ). StopsAt card.persistent commits count new.commits (held_by new)) still.commits (subst (λ (state : Persistent). StopsAt state commits mid.commits new.commits (held_by new)) persistent is.stops);
     }
 
-    then_stands : (by : KnownBy) (card : CardState) (commits : List Persistent) → (first_of card).state.persistent ≡ card.persistent → (first_of card).state.boxes ≡ card.boxes → (first_of card).commits ≡ []
-        → StandsBy by (finished done) old mid card (first_of card).commits → StandsBy by result mid new (first_of card).state commits → StandsBy by result old new card commits
-    then_stands ByStore card commits persistent boxes none before later = record {
-      stopped = on_err_weaker result (at_left card commits persistent boxes) later.stopped;
-      stable = λ is. later.stable is ∙ before.stable none;
-    }
-    then_stands ByTable card commits persistent boxes none before later = tt
-    then_stands ByMemory card commits persistent boxes none before later = tt
+    then_stands : (by : KnownBy) (card : CardState) (commits : List Persistent) → (first_of card).state.persistent ≡ card.persistent → (first_of card).state.boxes ≡ card.boxes
+        → StandsBy by result mid new (first_of card).state commits → StandsBy by result old new card commits
+    then_stands ByStore card commits persistent boxes later = on_err_weaker result (at_left card commits persistent boxes) later
+    then_stands ByTable card commits persistent boxes later = tt
+    then_stands ByMemory card commits persistent boxes later = tt
 
     module _ (by : KnownBy) (needs : IsAnsweredBy by (File Status)) (state : Persistent) (known : IsKnown by old state) where
       abbrev card : CardState
@@ -125,8 +129,7 @@ module _ (apdu : Apdu) where
       told_yields : IsTelling card apdu (first_of card) → Yields result by (File Status) old new card (whole_of card).state (whole_of card).commits
       told_yields telling =
           let answered : Answered = first_of card in
-          let before = acts.yields by state known in
-          let may = before.left needs in
+          let may = (acts.yields by state known).left needs in
           let later : Yields result by (File Status) mid new answered.state (polled_on answered.state).state (polled_on answered.state).commits =
           subst (λ (each : CardState). Yields result by (File Status) mid new each (polled_on each).state (polled_on each).commits) (sym (card_by by mid answered.state may)) (tells.yields by answered.state.persistent may.known) in
           subst (λ (each : Answered). Yields result by (File Status) old new card each.state each.commits) (sym telling.carried)
@@ -134,7 +137,7 @@ module _ (apdu : Apdu) where
             left = later.left;
             commits_so = λ counted. so_from result old.commits mid.commits new.commits (polled_on answered.state).commits still.commits (later.commits_so counted);
             calm = later.calm;
-            stands = then_stands by card (polled_on answered.state).commits telling.persistent telling.boxes telling.commits before.stands later.stands;
+            stands = then_stands by card (polled_on answered.state).commits telling.persistent telling.boxes later.stands;
           }))
 
       told_says : {Y : Type 0} (outcome : Result Y StoreFault) → OnOk outcome (out ≡ first) → IsTelling card apdu (first_of card) → OnOk outcome (SaysSo (whole_of card) out)
@@ -152,10 +155,21 @@ module _ (apdu : Apdu) where
     each_yields ByTable state known = told_yields ByTable tt state known (by_telling ByTable tt state known (tells_or_not (card_with false old state) apdu))
     each_yields ByMemory state known = record { left = λ of_tree. absurd (false≢true of_tree); commits_so = λ of_tree. absurd (false≢true of_tree); calm = λ of_tree. absurd (false≢true of_tree); stands = tt }
 
+    told_writes : (state : Persistent) → held_by old ≡ Some state → IsTelling (card_with false old state) apdu (first_of (card_with false old state)) → WritesChanges result old new (whole_of (card_with false old state)).changes
+    told_writes state held telling =
+        let answered : Answered = first_of (card_with false old state) in
+        let may = (acts.yields ByStore state held).left tt in
+        let stays : mid.told ≡ old.told = acts.writes state held ∙ ap (λ (changes : List Change). option_map (all_written changes) old.told) telling.changes ∙ sym (none_written old.told) in
+        let later : WritesChanges result mid new (polled_on answered.state).changes =
+        subst (λ (each : CardState). WritesChanges result mid new (polled_on each).changes) (sym (card_by ByStore mid answered.state may)) (tells.writes answered.state.persistent may.known) in
+        subst (λ (each : Answered). WritesChanges result old new each.changes) (sym telling.carried)
+        (subst (λ (changes : List Change). WritesChanges result old new (changes ++ (polled_on answered.state).changes)) (sym telling.changes) (writes_from result old mid new (polled_on answered.state).changes stays still.commits later))
+
     pub status_told_acts : ActsOn result (File Status) apdu old new out whole_of (λ status. status)
     status_told_acts = record {
       says = λ by state known needs. told_says by needs state known result same (by_telling by needs state known (tells_or_not (card_with false old state) apdu));
       yields = each_yields;
+      writes = λ state held. told_writes state held (by_telling ByStore tt state held (tells_or_not (card_with false old state) apdu));
       done = λ leaves. absurd leaves;
       denied = λ status refused. absurd refused;
       moves = status_moved old mid new still.table still.channels still.verified still.boxes tells.moves;
@@ -185,6 +199,7 @@ module _ (apdu : Apdu) where
     status_other_acts = record {
       says = λ by state known needs. subst (λ (each : Answered). SaysSo each out) (is_whole by needs state known) (acts.says by state known needs);
       yields = other_yields;
+      writes = λ state held. subst (λ (each : Answered). HasWritten each.changes old new) (is_whole ByStore tt state held) (acts.writes state held);
       done = λ leaves. absurd leaves;
       denied = λ status refused. absurd refused;
       moves = acts.moves;

@@ -8,6 +8,7 @@ use Rattle.uicc_types.specs.declared.answers.TheConstants.StatusWord.{DONE, MEMO
 use Rattle.apdu_form.specs.Model.{Apdu, command_in}
 use Rattle.store_form.specs.declared.store.StoreFault.{StoreFault}
 use Rattle.card_state.specs.Persistent.{Persistent}
+use Rattle.card_commits.proofs.WritesAllLemmas.{none_written}
 use Rattle.file_model.specs.Chains.{given, and_given}
 use Rattle.file_model.specs.declared.selections.Selection.{Selection}
 use Rattle.file_model.proofs.ChainsLemmas.{unless_so, given_so}
@@ -21,9 +22,10 @@ use Rattle.card_model.specs.declared.instructions.Instruction.{Instruction}
 use Rattle.card_core.specs.AnyStore.{command_named, IsRefusedWith}
 use Rattle.card_core.specs.Acting.{ActsAs, in_bytes, in_whole}
 use Rattle.card_core.specs.Cards.{held_by, card_with, card_of, card_due}
-use Rattle.card_core.specs.Known.{KnownBy, ByStore, CommitsSo, MayBeBy, SaysSo, StandsInStore}
+use Rattle.card_core.specs.Known.{KnownBy, ByStore, CommitsSo, MayBeBy, SaysSo, IsLeftAt}
 use Rattle.card_core.specs.Moves.{Answers, IsAnswered, StopsAt}
 use Rattle.card_core.specs.Parts.{CardParts}
+use Rattle.card_core.specs.Writing.{HasWritten, StopsWriting, WritesChanges}
 use Rattle.card_core.proofs.ActsAsLemmas.{acts_then, acts_named}
 use Rattle.card_core.proofs.CardOfLemmas.{if_card}
 use Rattle.card_core.proofs.CommandNamedLemmas.{same_status}
@@ -97,7 +99,7 @@ module _ {X : Type 0} (result : Result X StoreFault) (old new : CardParts) (byte
         let said = pending_refused word gives.1 (when_ok result _ gives.0 telling) in
         (gives.0, record { body = said.body; status_is = said.status_is ∙ told_other (pending new.session) word (named_other old.channels bytes word refused) }, gives.2);
     acts = λ instruction apdu read named.
-        acts_then result old new instruction apdu mid out (λ card. settled card (tried is_known card bytes)) (λ card. answer card bytes) (λ word. word) (told_pending (pending old.session)) (λ state. refl) (λ state. refl)
+        acts_then result old new instruction apdu mid out (λ card. settled card (tried is_known card bytes)) (λ card. answer card bytes) (λ word. word) (told_pending (pending old.session)) (λ state. refl) (λ state. refl) (λ state. refl)
         (λ by state may says.
         let card : CardState = card_with false old state in
         let After : Type 0 = MayBeBy by new (settled card (tried is_known card bytes)).state in
@@ -129,7 +131,8 @@ record HasAnswered {X : Type 0} (result : Result X StoreFault) (old new : CardPa
   says : OnOk result (SaysSo answered out)
   left : OnOk result (MayBeBy ByStore new answered.state)
   counted : CommitsSo result old.commits new.commits answered.commits
-  stands : StandsInStore result old new card answered.commits
+  stands : OnErr result (IsLeftAt old new card answered.commits)
+  writes : WritesChanges result old new answered.changes
 
 refused_held : {X : Type 0} (result : Result X StoreFault) (parts : CardParts) (out : Answer) (state : Persistent) (status : StatusWord) → held_by parts ≡ Some state → IsOk result → IsRefusedWith status out
     → HasAnswered result parts parts out (card_with false parts state) (refused_card (card_with false parts state) status)
@@ -137,7 +140,8 @@ refused_held (Ok done) parts out state status held ok is = record {
   says = record { body = is.body; status = is.status_is };
   left = record { known = held; channels = refl; verified = refl; session = refl; boxes = refl };
   counted = refl;
-  stands = record { stopped = tt; stable = λ none. refl };
+  stands = tt;
+  writes = none_written parts.told;
 }
 refused_held (Err fault) parts out state status held ok is = absurd (false≢true ok)
 
@@ -147,7 +151,7 @@ module _ {X : Type 0} (result : Result X StoreFault) (old new : CardParts) (byte
   by_found state held (Ok instruction) named =
       let acts = acts_named result old new bytes out does instruction named in
       let yields = acts.yields ByStore state held in
-      record { says = acts.says ByStore state held tt; left = yields.left tt; counted = yields.commits_so tt; stands = yields.stands }
+      record { says = acts.says ByStore state held tt; left = yields.left tt; counted = yields.commits_so tt; stands = yields.stands; writes = acts.writes state held }
   by_found state held (Err status) named =
       let gives = does.refused status named in
       let card : CardState = card_with false old state in
@@ -166,19 +170,19 @@ whole_answered {X} (Ok done) old new bytes out rests due does usual empty = reco
   counts = record {
     commits = if_card old (λ card. new.commits ≡ raised_by (length (answer card bytes).commits) old.commits) rests (λ state held. (has_answered {X = X} (Ok done) old new bytes out does state held).counted);
     stopped = tt;
-    stable = if_card old (λ card. (answer card bytes).commits ≡ [] → new.told ≡ old.told) rests (λ state held. (has_answered {X = X} (Ok done) old new bytes out does state held).stands.stable);
   };
+  writes = if_card old (λ card. HasWritten (answer card bytes).changes old new) rests (λ state held. (has_answered {X = X} (Ok done) old new bytes out does state held).writes);
   usual = usual;
   empty = tt;
 }
 whole_answered {X} (Err fault) old new bytes out rests due does usual empty = record {
-  comes = if_card old (λ card. IsSomeAnd (card_due new) (IsLeft card (passed card bytes))) rests (λ state held. (has_answered {X = X} (Err fault) old new bytes out does state held).stands.stopped.left);
+  comes = if_card old (λ card. IsSomeAnd (card_due new) (IsLeft card (passed card bytes))) rests (λ state held. (has_answered {X = X} (Err fault) old new bytes out does state held).stands.left);
   counts = record {
     commits = tt;
     stopped =
-        if_card old (λ card. StopsAt card.persistent (answer card bytes).commits old.commits new.commits (held_by new)) rests (λ state held. (has_answered {X = X} (Err fault) old new bytes out does state held).stands.stopped.stops);
-    stable = if_card old (λ card. (answer card bytes).commits ≡ [] → new.told ≡ old.told) rests (λ state held. (has_answered {X = X} (Err fault) old new bytes out does state held).stands.stable);
+        if_card old (λ card. StopsAt card.persistent (answer card bytes).commits old.commits new.commits (held_by new)) rests (λ state held. (has_answered {X = X} (Err fault) old new bytes out does state held).stands.stops);
   };
+  writes = if_card old (λ card. StopsWriting (answer card bytes).changes old new) rests (λ state held. (has_answered {X = X} (Err fault) old new bytes out does state held).writes);
   usual = tt;
   empty = empty;
 }

@@ -1,5 +1,5 @@
 -- What comes of what applets are told, by a command of the toolkit or by STATUS, by what the card is known.
-use Rattle.std.proofs.Common.{◌≡◌, ℕ, ◌+◌, ◌<◌, arith, false, List, [], ◌∷◌, length, map, Some, Contains, Result, Ok, Err, refl, sym, ◌∙◌, ap, subst, IsSomeAnd, IsOk}
+use Rattle.std.proofs.Common.{◌≡◌, inl, ℕ, ◌+◌, ◌<◌, arith, false, List, [], ◌∷◌, length, map, Some, option_map, Contains, Result, Ok, Err, refl, sym, ◌∙◌, ap, subst, IsSomeAnd, IsOk}
 use Rattle.std.proofs.lemmas.Bool.{false≢true}
 use Rattle.std.proofs.lemmas.List.{length-map}
 use Rattle.std.proofs.lemmas.List.Elements.{Contains-get_or}
@@ -14,6 +14,9 @@ use Rattle.card_state.specs.States.{rows_of}
 use Rattle.file_model.specs.Chains.{and_given}
 use Rattle.file_model.specs.declared.commands.FileCommand.TheVariants.{Status}
 use Rattle.card_commits.specs.Laws.{IsTold, TablesTellStates}
+use Rattle.card_commits.specs.Performing.{StopsAmong}
+use Rattle.card_commits.specs.Writing.{all_written}
+use Rattle.card_commits.proofs.WritesAllLemmas.{none_written}
 use Rattle.toolkit_model.specs.Commands.{polled}
 use Rattle.toolkit_model.specs.Passing.{passed_rows}
 use Rattle.proactive_handler.specs.Steps.{Scene}
@@ -35,6 +38,7 @@ use Rattle.card_core.specs.Cards.{held_by, card_with, card_due, IsRunning}
 use Rattle.card_core.specs.Known.{KnownBy, ByStore, ByTable, ByMemory, IsKnown, IsAnsweredBy, SaysSo, StandsBy, Yields}
 use Rattle.card_core.specs.Moves.{StopsAt, HasRowsOf, polled_on}
 use Rattle.card_core.specs.Parts.{CardParts}
+use Rattle.card_core.specs.Writing.{HasWritten, StopsWriting}
 use Rattle.card_core.proofs.HasToolkitLemmas.{scene_of, has_toolkit_of}
 use Rattle.card_core.proofs.KnownLemmas.{told_by, finished, stopped_by}
 use Rattle.card_core.proofs.StopsAtLemmas.{stops_between, stands_there}
@@ -82,6 +86,19 @@ module _ (card : CardState) (out : Answer) (old new : Scene) where
       subst (λ (lists : List (List Registration)). Contains lists (rows_of new.memory.table)) (sym all)
       (subst (Contains (rows_of old.memory.table ∷ log)) (sym short.rows_are) (Contains-get_or (rows_of old.memory.table ∷ log) short.count [] low))
 
+-- ---- what it writes
+
+module _ (card : CardState) (out : Answer) (old new : Scene) where
+  written_so : (tried : Result ToolkitOutcome StatusWord) (done : Unit {0}) → Carries tried out old new (finished done) → new.memory.told ≡ option_map (all_written (settled card (toolkit_tried card tried)).changes) old.memory.told
+  unfolding and_given
+  written_so (Err status) done carries = ap (λ (now : Scene). now.memory.told) carries.stays ∙ none_written old.memory.told
+  written_so (Ok outcome) done carries = carries.comes.writes
+
+  partly_so : (tried : Result ToolkitOutcome StatusWord) (fault : StoreFault) → Carries tried out old new (stopped_by fault) → StopsAmong (settled card (toolkit_tried card tried)).changes old.memory new.memory
+  unfolding and_given
+  partly_so (Err status) fault carries = absurd carries
+  partly_so (Ok outcome) fault short = short.writes
+
 -- ---- what is tried so on a card
 
 module _ (tell : TablesTellStates) (tried : CardState → Result ToolkitOutcome StatusWord) (instruction : Instruction) (beside : is_of_tree instruction ≡ false) (old new : CardParts) (running : IsRunning old) (out : Answer) where
@@ -107,12 +124,12 @@ module _ (tell : TablesTellStates) (tried : CardState → Result ToolkitOutcome 
     tool_says by state known = (let so = so_on state (told by state known) in record { body = so.body; status = so.status })
 
     stands : (by : KnownBy) (state : Persistent) → IsKnown by old state → StandsBy by (finished done) old new (card_with false old state) (came_on state).commits
-    stands ByStore state known = record {
-      stopped = tt;
-      stable = (counts_so (card_with false old state) out (scene_of old) (scene_of new) (tried (card_with false old state)) done (carries state (told ByStore state known))).stays;
-    }
+    stands ByStore state known = tt
     stands ByTable state known = tt
     stands ByMemory state known = tt
+
+    pub tool_writes : (state : Persistent) → held_by old ≡ Some state → HasWritten (came_on state).changes old new
+    tool_writes state held = written_so (card_with false old state) out (scene_of old) (scene_of new) (tried (card_with false old state)) done (carries state (told ByStore state held))
 
     pub tool_yields : (by : KnownBy) (state : Persistent) → IsKnown by old state → Yields {X = Unit {0}} (Ok done) by instruction old new (card_with false old state) (came_on state).state (came_on state).commits
     tool_yields by state known =
@@ -139,15 +156,15 @@ module _ (tell : TablesTellStates) (tried : CardState → Result ToolkitOutcome 
     pub tool_stops : (state : Persistent) → held_by old ≡ Some state → StopsAt state (came_on state).commits old.commits new.commits (held_by new)
     tool_stops state held = stops_so (card_with false old state) out (scene_of old) (scene_of new) (tried (card_with false old state)) fault held (carries state (told ByStore state held))
 
+    pub tool_cut : (state : Persistent) → held_by old ≡ Some state → StopsWriting (came_on state).changes old new
+    tool_cut state held = inl (partly_so (card_with false old state) out (scene_of old) (scene_of new) (tried (card_with false old state)) fault (carries state (told ByStore state held)))
+
     pub tool_rows : (state : Persistent) → IsTold old.table state → HasRowsOf (state ∷ (came_on state).commits) new
     tool_rows state told = stopped_rows (card_with false old state) out (scene_of old) (scene_of new) (tried (card_with false old state)) fault (sym told.rows) (carries state told)
 
     module _ (left : (state : Persistent) → held_by old ≡ Some state → IsSomeAnd (card_due new) (IsLeft (card_with false old state) (state ∷ (came_on state).commits))) where
       stood : (by : KnownBy) (state : Persistent) → IsKnown by old state → StandsBy by (stopped_by fault) old new (card_with false old state) (came_on state).commits
-      stood ByStore state known = record {
-        stopped = record { left = left state known; stops = tool_stops state known };
-        stable = λ none. absurd (false≢true (calm_so ByStore state known none));
-      }
+      stood ByStore state known = record { left = left state known; stops = tool_stops state known }
       stood ByTable state known = tt
       stood ByMemory state known = tt
 
@@ -171,6 +188,7 @@ module _ (tell : TablesTellStates) (command : CatCommand) (apdu : Apdu) (old new
   toolkit_act done carries = record {
     says = λ by state known needs. tool_says tell (tried_by command apdu) (Toolkit command) refl old new running out done moves.channels moves.verified carries by state known;
     yields = tool_yields tell (tried_by command apdu) (Toolkit command) refl old new running out done moves.channels moves.verified carries;
+    writes = tool_writes tell (tried_by command apdu) (Toolkit command) refl old new running out done moves.channels moves.verified carries;
     done = λ leaves. refl;
     denied = λ status refused. absurd refused;
     moves = moves;
@@ -184,6 +202,7 @@ module _ (tell : TablesTellStates) (command : CatCommand) (apdu : Apdu) (old new
   toolkit_stops fault carries left other = record {
     says = λ by state known needs. tt;
     yields = tool_stopped tell (tried_by command apdu) (Toolkit command) refl old new running out fault carries left;
+    writes = tool_cut tell (tried_by command apdu) (Toolkit command) refl old new running out fault carries;
     done = λ leaves. absurd (other leaves);
     denied = λ status refused. absurd refused;
     moves = moves;
@@ -212,6 +231,8 @@ module _ (tell : TablesTellStates) (old new : CardParts) (running : IsRunning ol
   polled_act done comes = record {
     yields =
         tool_yields tell polled_by (File Status) refl old new running said done moves.channels moves.verified (λ state told. polled_carries (card_with false old state) (scene_of old) (scene_of new) (Ok done) (comes state told));
+    writes =
+        tool_writes tell polled_by (File Status) refl old new running said done moves.channels moves.verified (λ state told. polled_carries (card_with false old state) (scene_of old) (scene_of new) (Ok done) (comes state told));
     moves = moves;
   }
 
@@ -221,5 +242,6 @@ module _ (tell : TablesTellStates) (old new : CardParts) (running : IsRunning ol
   polled_stops fault comes left = record {
     yields =
         tool_stopped tell polled_by (File Status) refl old new running said fault (λ state told. polled_carries {X = Unit {0}} (card_with false old state) (scene_of old) (scene_of new) (Err fault) (comes state told)) left;
+    writes = tool_cut tell polled_by (File Status) refl old new running said fault (λ state told. polled_carries {X = Unit {0}} (card_with false old state) (scene_of old) (scene_of new) (Err fault) (comes state told));
     moves = moves;
   }

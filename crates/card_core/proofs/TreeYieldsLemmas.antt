@@ -1,8 +1,6 @@
 -- What a command that makes, deletes or resizes a file comes to, by what its card is known.
-use Rattle.std.proofs.Common.{◌≡◌, ℕ, ◌≤◌, false, List, [], ◌∷◌, length, Option, Some, None, is_some, refl, sym, ◌∙◌, ap, subst, IsSomeAnd, Contains, Result, Ok, Err, IsOk}
-use Rattle.std.specs.Result.{result_ok}
+use Rattle.std.proofs.Common.{◌≡◌, ◌≤◌, false, List, [], ◌∷◌, length, Option, Some, None, refl, sym, ◌∙◌, ap, subst, IsSomeAnd, Contains, Result, Ok, Err, IsOk}
 use Rattle.std.proofs.lemmas.Bool.{false≢true}
-use Rattle.std.proofs.lemmas.Option.{same_Some}
 use Rattle.list_laws.proofs.IfSomeLemmas.{if_some_at}
 use Rattle.uicc_types.specs.Counts.{raised_by}
 use Rattle.uicc_types.specs.declared.answers.Answer.{Answer}
@@ -11,8 +9,9 @@ use Rattle.apdu_form.specs.Classes.{channel_of}
 use Rattle.apdu_form.specs.Model.{Apdu}
 use Rattle.store_form.specs.declared.store.StoreFault.{StoreFault}
 use Rattle.card_state.specs.declared.entries.Loaded.{Loaded}
+use Rattle.card_state.specs.Changes.{Change}
 use Rattle.card_state.specs.Persistent.{Persistent}
-use Rattle.card_state.specs.Standing.{standing, stands_for, Stands, Agrees}
+use Rattle.card_state.specs.Standing.{Stands}
 use Rattle.card_state.specs.States.{pins_of}
 use Rattle.access_rules.specs.declared.rules.Verified.{Verified}
 use Rattle.file_model.specs.Access.{keys_seen}
@@ -28,7 +27,7 @@ use Rattle.file_model.specs.declared.tree_commands.TreeCommand.{TreeCommand}
 use Rattle.file_model.specs.declared.tree_commands.TreeCommand.TheVariants.{Create, Delete, Resize}
 use Rattle.card_commits.specs.Laws.{IsTold, TablesTellStates}
 use Rattle.record_commands.specs.Tables.{HasOtherFiles}
-use Rattle.file_admin.specs.Outcomes.{IsTreeOutcome, PerformsTree, AnswersTree, CommitsTree, IfNothingPasses, passed_by, tree_status_of}
+use Rattle.file_admin.specs.Outcomes.{IsTreeOutcome, PerformsTree, AnswersTree, CommitsTree, IfNothingPasses, passed_by, changes_by, tree_status_of}
 use Rattle.card_model.specs.Answers.{Answered, settled, carried_out, tree_tried, seen_by}
 use Rattle.card_model.specs.States.{CardState}
 use Rattle.card_model.specs.declared.instructions.Instruction.TheVariants.{Tree}
@@ -39,12 +38,15 @@ use Rattle.card_core.specs.Cards.{memory_of, held_by, card_with, IsRunning}
 use Rattle.card_core.specs.Known.{KnownBy, ByStore, ByTable, ByMemory, IsKnown, IsAnsweredBy, IsCountedBy, IsCalmBy, MayBeBy, SaysSo, IsLeftAt}
 use Rattle.card_core.specs.Laws.{TablesHaveRows}
 use Rattle.card_core.specs.Parts.{CardParts}
+use Rattle.card_core.specs.Serving.{WritesOnTree}
+use Rattle.card_core.specs.Writing.{HasWritten, StopsWriting}
 use Rattle.card_core.proofs.ActsOnLemmas.{acts_done, acts_stopped}
 use Rattle.card_core.proofs.IsLeftLemmas.{left_once}
 use Rattle.card_core.proofs.IsRunningLemmas.{in_order}
 use Rattle.card_core.proofs.KnownLemmas.{told_by, sees_by, finished, stopped_by}
 use Rattle.card_core.proofs.SettledFileLemmas.{trees_once}
 use Rattle.card_core.proofs.StopsAtLemmas.{no_commits}
+use Rattle.card_core.proofs.WritingLemmas.{tree_written, tree_cut}
 
 -- ---- what it is tried on
 
@@ -58,11 +60,10 @@ unfolding and_given
 commits_are card (Ok outcome) = refl
 commits_are card (Err status) = refl
 
--- the state that a table agrees with is the one that is held
-agreed_state : (mark : ℕ) (told : Option (List ℕ)) (table : Loaded) (agrees : Agrees mark told table) (persistent : Persistent) → standing mark told ≡ Some persistent → agrees.state ≡ persistent
-unfolding standing
-agreed_state mark None table agrees persistent held = absurd (false≢true (ap is_some held))
-agreed_state mark (Some bytes) table agrees persistent held = same_Some agrees.state persistent (sym (ap (λ found. result_ok found) (ap (stands_for mark) agrees.told_is ∙ agrees.stands.decoded)) ∙ held)
+changes_are : (card : CardState) (came : Result TreeOutcome StatusWord) → changes_by card.channels came ≡ (settled card (tree_tried card came)).changes
+unfolding and_given
+changes_are card (Ok outcome) = refl
+changes_are card (Err status) = refl
 
 -- ---- what it comes to
 
@@ -111,65 +112,70 @@ module _ (command : TreeCommand) (apdu : Apdu) (old new : CardParts) (out : Answ
     passed_is : (state : Persistent) → IsTold old.table state → passed_by old.channels (meaning state) ≡ (came_on state).commits
     passed_is state told = commits_are (card_with false old state) (meaning state) ∙ ap (λ (each : Answered). each.commits) (tried_is state told)
 
-    module _ (stays_told : IfNothingPasses table old.channels meaning (new.told ≡ old.told)) where
-      stays : (state : Persistent) → held_by old ≡ Some state → (came_on state).commits ≡ [] → new.told ≡ old.told
-      stays state held none =
-          let agrees = running.mounted.agrees in
-          stays_told old.store_mark agrees.content agrees.state (subst (λ (each : Loaded). Stands old.store_mark agrees.content each agrees.state) (sym same) agrees.stands)
-          (ap (λ (each : Persistent). passed_by old.channels (meaning each)) (agreed_state old.store_mark old.told old.table agrees state held) ∙ passed_is state (told ByStore state held) ∙ none)
+    -- and changes what the card does
+    abbrev changes_on : Persistent → List Change
+    changes_on state = changes_by old.channels (meaning state)
 
-      over : (state : Persistent) (known : IsKnown ByMemory old state) → Stands known.store_mark known.content table state
-      over state known = subst (λ (each : Loaded). Stands known.store_mark known.content each state) (sym same) known.stands
+    changes_is : (state : Persistent) → held_by old ≡ Some state → changes_on state ≡ (came_on state).changes
+    changes_is state held = changes_are (card_with false old state) (meaning state) ∙ ap (λ (each : Answered). each.changes) (tried_is state (told ByStore state held))
 
-      module _ (done : Unit {0}) (has : HasBesides old new) (body : out.body ≡ [])
-          (performs : PerformsTree (finished done) (record (memory_of old) { table = table }) (memory_of new) out old.channels new.channels meaning)
-          (tells : AnswersTree table new.table out.status old.channels new.channels meaning)
-          (commits : CommitsTree (Ok done) (record (memory_of old) { table = table }) (memory_of new) old.channels meaning) where
-        held_outcome : (state : Persistent) → held_by old ≡ Some state → IsTreeOutcome state (meaning state) old.channels out new.channels (record (memory_of old) { table = table }) (memory_of new)
-        held_outcome state held =
-            if_some_at (held_by old) (λ each. IsTreeOutcome each (meaning each) old.channels out new.channels (record (memory_of old) { table = table }) (memory_of new)) state performs held
+    over : (state : Persistent) (known : IsKnown ByMemory old state) → Stands known.store_mark known.content table state
+    over state known = subst (λ (each : Loaded). Stands known.store_mark known.content each state) (sym same) known.stands
 
-        answered : (by : KnownBy) (state : Persistent) → IsKnown by old state → IsAnsweredBy by (Tree command) → IsTreeDone by old new state (meaning state) out
-        answered ByStore state known needs = (let is = held_outcome state known in record { body = body; status = is.status; channels = is.channels; known = is.state_is })
-        answered ByTable state known needs = absurd needs
-        answered ByMemory state known needs =
-            let is = tells known.store_mark known.content state (over state known) in
-            record { body = body; status = is.status_is; channels = is.channels; known = record { store_mark = known.store_mark; content = is.content; stands = is.stands } }
+    module _ (done : Unit {0}) (has : HasBesides old new) (body : out.body ≡ [])
+        (performs : PerformsTree (finished done) (record (memory_of old) { table = table }) (memory_of new) out old.channels new.channels meaning)
+        (tells : AnswersTree table new.table out.status old.channels new.channels meaning)
+        (commits : CommitsTree (Ok done) (record (memory_of old) { table = table }) (memory_of new) old.channels meaning)
+        (writes : WritesOnTree (finished done) (record (memory_of old) { table = table }) (memory_of new) changes_on) where
+      held_outcome : (state : Persistent) → held_by old ≡ Some state → IsTreeOutcome state (meaning state) old.channels out new.channels (record (memory_of old) { table = table }) (memory_of new)
+      held_outcome state held =
+          if_some_at (held_by old) (λ each. IsTreeOutcome each (meaning each) old.channels out new.channels (record (memory_of old) { table = table }) (memory_of new)) state performs held
 
-        counted : (by : KnownBy) (state : Persistent) → IsKnown by old state → IsCountedBy by (Tree command) → new.commits ≡ raised_by (length (passed_by old.channels (meaning state))) old.commits
-        counted ByStore state known counts = (held_outcome state known).commits
-        counted ByTable state known counts = absurd counts
-        counted ByMemory state known counts = commits known.store_mark known.content state (over state known)
+      answered : (by : KnownBy) (state : Persistent) → IsKnown by old state → IsAnsweredBy by (Tree command) → IsTreeDone by old new state (meaning state) out
+      answered ByStore state known needs = (let is = held_outcome state known in record { body = body; status = is.status; channels = is.channels; known = is.state_is })
+      answered ByTable state known needs = absurd needs
+      answered ByMemory state known needs =
+          let is = tells known.store_mark known.content state (over state known) in
+          record { body = body; status = is.status_is; channels = is.channels; known = record { store_mark = known.store_mark; content = is.content; stands = is.stands } }
 
-        answers_trees : (by : KnownBy) (state : Persistent) → IsKnown by old state → IsAnsweredBy by (Tree command) → SaysSo (came_on state) out × MayBeBy by new (came_on state).state
-        answers_trees by state known needs =
-            subst (λ (each : Answered). SaysSo each out × MayBeBy by new each.state) (tried_is state (told by state known)) (tree_answers by state (meaning state) has (answered by state known needs))
+      counted : (by : KnownBy) (state : Persistent) → IsKnown by old state → IsCountedBy by (Tree command) → new.commits ≡ raised_by (length (passed_by old.channels (meaning state))) old.commits
+      counted ByStore state known counts = (held_outcome state known).commits
+      counted ByTable state known counts = absurd counts
+      counted ByMemory state known counts = commits known.store_mark known.content state (over state known)
 
-        pub trees_act : ActsAlone (Ok done) (Tree command) apdu old new out
-        trees_act =
-            acts_done (Tree command) apdu old new out moves stays done answers_trees
-            (λ by state known counts. counted by state known counts ∙ ap (λ (states : List Persistent). raised_by (length states) old.commits) (passed_is state (told by state known))) (λ status refused. absurd refused)
+      answers_trees : (by : KnownBy) (state : Persistent) → IsKnown by old state → IsAnsweredBy by (Tree command) → SaysSo (came_on state) out × MayBeBy by new (came_on state).state
+      answers_trees by state known needs =
+          subst (λ (each : Answered). SaysSo each out × MayBeBy by new each.state) (tried_is state (told by state known)) (tree_answers by state (meaning state) has (answered by state known needs))
 
-      -- ---- once a fault stopped it
+      pub trees_act : ActsAlone (Ok done) (Tree command) apdu old new out
+      trees_act =
+          acts_done (Tree command) apdu old new out moves done
+          (λ state held. subst (λ (changes : List Change). HasWritten changes old new) (changes_is state held) (tree_written done old new table changes_on state held writes)) answers_trees
+          (λ by state known counts. counted by state known counts ∙ ap (λ (states : List Persistent). raised_by (length states) old.commits) (passed_is state (told by state known))) (λ status refused. absurd refused)
 
-      module _ (rows : TablesHaveRows) (law : CommandsLeaveRows) (fault : StoreFault) (stays_there : new.leaving ≡ None)
-          (performs : PerformsTree (stopped_by fault) (record (memory_of old) { table = table }) (memory_of new) out old.channels new.channels meaning) (none_done : new.commits ≡ old.commits)
-          (calm : IfNothingPasses table old.channels meaning (IsOk (stopped_by fault))) where
-        left_there : (state : Persistent) → held_by old ≡ Some state → IsLeftAt old new (card_with false old state) (came_on state).commits
-        left_there state held =
-            left_once law (Tree command) apdu refl old new state stays_there moves.boxes (in_order rows old running state (told ByStore state held))
-            (subst (λ (passed : List Persistent). length passed ≤ 1) (passed_is state (told ByStore state held)) (trees_once state (keys_seen (pins_of table) old.verified) old.channels (channel_of apdu.class) apdu command)) none_done
-            (subst (λ (passed : List Persistent). IsSomeAnd (held_by new) (Contains (state ∷ passed))) (passed_is state (told ByStore state held))
-            (if_some_at (held_by old) (λ each. IsSomeAnd (held_by new) (Contains (each ∷ passed_by old.channels (meaning each)))) state performs held))
+    -- ---- once a fault stopped it
 
-        never : (by : KnownBy) (state : Persistent) → IsKnown by old state → IsCalmBy by (Tree command) → (came_on state).commits ≡ [] → ⊥
-        never ByStore state known is none = is
-        never ByTable state known is none = is
-        never ByMemory state known of_tree none = false≢true (calm known.store_mark known.content state (over state known) (passed_is state (told ByMemory state known) ∙ none))
+    module _ (rows : TablesHaveRows) (law : CommandsLeaveRows) (fault : StoreFault) (stays_there : new.leaving ≡ None)
+        (performs : PerformsTree (stopped_by fault) (record (memory_of old) { table = table }) (memory_of new) out old.channels new.channels meaning) (none_done : new.commits ≡ old.commits)
+        (calm : IfNothingPasses table old.channels meaning (IsOk (stopped_by fault)))
+        (writes : WritesOnTree (stopped_by fault) (record (memory_of old) { table = table }) (memory_of new) changes_on) where
+      left_there : (state : Persistent) → held_by old ≡ Some state → IsLeftAt old new (card_with false old state) (came_on state).commits
+      left_there state held =
+          left_once law (Tree command) apdu refl old new state stays_there moves.boxes (in_order rows old running state (told ByStore state held))
+          (subst (λ (passed : List Persistent). length passed ≤ 1) (passed_is state (told ByStore state held)) (trees_once state (keys_seen (pins_of table) old.verified) old.channels (channel_of apdu.class) apdu command)) none_done
+          (subst (λ (passed : List Persistent). IsSomeAnd (held_by new) (Contains (state ∷ passed))) (passed_is state (told ByStore state held))
+          (if_some_at (held_by old) (λ each. IsSomeAnd (held_by new) (Contains (each ∷ passed_by old.channels (meaning each)))) state performs held))
 
-        pub trees_stopped : ActsAlone (stopped_by fault) (Tree command) apdu old new out
-        trees_stopped =
-            acts_stopped (Tree command) apdu old new out moves stays fault left_there (λ by state known counts. no_commits (length (came_on state).commits) old.commits new.commits none_done) never (λ leaves. leaves) (λ status refused. refused)
+      never : (by : KnownBy) (state : Persistent) → IsKnown by old state → IsCalmBy by (Tree command) → (came_on state).commits ≡ [] → ⊥
+      never ByStore state known is none = is
+      never ByTable state known is none = is
+      never ByMemory state known of_tree none = false≢true (calm known.store_mark known.content state (over state known) (passed_is state (told ByMemory state known) ∙ none))
+
+      pub trees_stopped : ActsAlone (stopped_by fault) (Tree command) apdu old new out
+      trees_stopped =
+          acts_stopped (Tree command) apdu old new out moves fault left_there
+          (λ state held.
+          subst (λ (changes : List Change). StopsWriting changes old new) (changes_is state held) (tree_cut fault old new table changes_on state running.mounted.agrees same none_done held writes)) (λ by state known counts. no_commits (length (came_on state).commits) old.commits new.commits none_done) never (λ leaves. leaves) (λ status refused. refused)
 
 -- ---- what it is tried with
 

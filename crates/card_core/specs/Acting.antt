@@ -18,11 +18,12 @@ use Rattle.card_model.specs.declared.instructions.Instruction.{Instruction}
 use Rattle.card_model.specs.declared.instructions.Instruction.TheVariants.{File}
 use Rattle.file_model.specs.declared.commands.FileCommand.TheVariants.{Status}
 use Rattle.card_core.specs.AnyStore.{BeginsAnew, command_named, IsRefusedWith, MayBe, AnswersAs, MayStand, AnswersStanding, LeavesMemory, NeedsNoContents, CommitsByTable, ReachesApplets, RefusesByTable, IsDenied, MovesStatus, MovesItsOwn, ActsAnew}
-use Rattle.card_core.specs.Cards.{card_with}
+use Rattle.card_core.specs.Cards.{held_by, card_with}
 use Rattle.card_core.specs.Commands.{by_instruction}
 use Rattle.card_core.specs.Known.{KnownBy, IsKnown, IsAnsweredBy, SaysSo, Yields}
 use Rattle.card_core.specs.Moves.{polled_on, HasRowsOf, IsServed, OnServed}
 use Rattle.card_core.specs.Parts.{CardParts}
+use Rattle.card_core.specs.Writing.{WritesChanges}
 use Rattle.card_core.specs.declared.faults.CardFault.{CardFault}
 
 -- Each of these states was committed once, and no other, where the command was answered; whatever comes of it, no more are
@@ -43,6 +44,8 @@ pub record ActsOn {X : Type 0} (result : Result X StoreFault) (instruction : Ins
   -- and so the card is left, and as often it commits
   pub yields : (by : KnownBy) (state : Persistent) → IsKnown by old state
       → Yields result by instruction old new (card_with false old state) (comes (card_with false old state)).state (comes (card_with false old state)).commits
+  -- over a store that tells its bytes, its changes alone are written
+  pub writes : (state : Persistent) → held_by old ≡ Some state → WritesChanges result old new (comes (card_with false old state)).changes
   -- SELECT, MANAGE CHANNEL and FETCH meet no fault
   pub done : LeavesMemory instruction → IsOk result
   -- nor does one that the table refuses, which is answered so, and all stays
@@ -70,6 +73,7 @@ pub record ChangesNothing {X : Type 0} (result : Result X StoreFault) (old new :
 pub record TellsApplets {X : Type 0} (result : Result X StoreFault) (old new : CardParts) : Type 0 where
   pub yields : (by : KnownBy) (state : Persistent) → IsKnown by old state
       → Yields result by (File Status) old new (card_with false old state) (polled_on (card_with false old state)).state (polled_on (card_with false old state)).commits
+  pub writes : (state : Persistent) → held_by old ≡ Some state → WritesChanges result old new (polled_on (card_with false old state)).changes
   pub moves : MovesStatus old new
 
 -- A fault stopped the toolkit: the rows of the table are those before it, or of one of the states that were to be committed, and the

@@ -73,14 +73,9 @@ pub record IsLeftAt (old new : CardParts) (card : CardState) (commits : List Per
   pub left : IsSomeAnd (card_due new) (IsLeft card (card.persistent ∷ commits))
   pub stops : StopsAt card.persistent commits old.commits new.commits (held_by new)
 
--- What stands in a store that tells its bytes: what a fault left, and the bytes as they were where nothing is committed.
-pub record StandsInStore {X : Type 0} (result : Result X StoreFault) (old new : CardParts) (card : CardState) (commits : List Persistent) : Type 0 where
-  pub stopped : OnErr result (IsLeftAt old new card commits)
-  pub stable : commits ≡ [] → new.told ≡ old.told
-
--- what a command leaves of the card, by what is known of its state
+-- what a fault leaves in a store that tells its bytes
 abbrev pub StandsBy : {X : Type 0} → KnownBy → Result X StoreFault → CardParts → CardParts → CardState → List Persistent → Type 0
-StandsBy ByStore result old new card commits = StandsInStore result old new card commits
+StandsBy ByStore result old new card commits = OnErr result (IsLeftAt old new card commits)
 StandsBy ByTable result old new card commits = Unit {0}
 StandsBy ByMemory result old new card commits = Unit {0}
 

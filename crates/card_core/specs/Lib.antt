@@ -17,3 +17,4 @@ pub mod Serving
 pub mod Starts
 pub mod Transmitting
 pub mod Underway
+pub mod Writing

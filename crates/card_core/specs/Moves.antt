@@ -13,6 +13,7 @@ use Rattle.card_model.specs.Toolkit.{toolkit_of, coming_to}
 use Rattle.card_model.specs.Runs.{IsLeft}
 use Rattle.card_core.specs.Parts.{CardParts}
 use Rattle.card_core.specs.Cards.{card_of, card_due, held_by}
+use Rattle.card_core.specs.Writing.{WritesChanges}
 use Rattle.card_core.specs.declared.faults.CardFault.{CardFault}
 use Rattle.card_core.specs.declared.faults.CardFault.TheVariants.{PowerLost, NoPower}
 
@@ -99,12 +100,10 @@ Comes (Ok _) before apdu out after due = IfSome before (λ card. Answers (answer
 Comes (Err _) before apdu out after due = IfSome before (λ card. IsSomeAnd due (IsLeft card (passed card apdu)))
 
 -- Where the store tells its bytes, each of these states is committed once, and no other; where a fault stops that, it stands for the
--- one after the commits that were acknowledged, or after one more. Where there is none, the bytes stay as they were, also where a
--- fault stops it.
+-- one after the commits that were acknowledged, or after one more.
 pub record CommitsStates {X : Type 0} (result : Result X StoreFault) (old new : CardParts) (states : CardState → List Persistent) : Type 0 where
   pub commits : OnOk result (IfSome (card_of old) (λ card. new.commits ≡ raised_by (length (states card)) old.commits))
   pub stopped : OnErr result (IfSome (card_of old) (λ card. StopsAt card.persistent (states card) old.commits new.commits (held_by new)))
-  pub stable : IfSome (card_of old) (λ card. states card ≡ [] → new.told ≡ old.told)
 
 -- the rows of the table are those of one of these states
 abbrev pub HasRowsOf : List Persistent → CardParts → Type 0
@@ -116,6 +115,8 @@ pub record IsAnswered {X : Type 0} (result : Result X StoreFault) (old new : Car
   pub comes : Comes result (card_of old) bytes out (card_of new) (card_due new)
   -- what it has to commit was committed
   pub counts : CommitsStates result old new (λ card. (answer card bytes).commits)
+  -- and what it changes was written, and no other byte
+  pub writes : IfSome (card_of old) (λ card. WritesChanges result old new (answer card bytes).changes)
   -- no answer is 6581, and a fault leaves no data
   pub usual : OnOk result (out.status.0 ≢ MEMORY_PROBLEM.0)
   pub empty : OnErr result (out.body ≡ [])

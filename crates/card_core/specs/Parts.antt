@@ -9,10 +9,9 @@ use Rattle.applet_trait.specs.Minds.{AppletState}
 use Rattle.toolkit_model.specs.Sessions.{SessionState}
 
 -- Of its store: whether no recovery is due there, its size, its mark, the bytes that it tells, if it tells them, the counts of its
--- device, how many commits it answered with Ok, and how many reads and recoveries it was asked for. Of the card itself: the table of entries, the index
--- of its rows by events, what is selected
--- on each channel, the verified keys, the toolkit's session, the minds in the boxes, the shelf of the applet that a DELETE takes away
--- which met a fault, whether it has power, and whether a recovery is due.
+-- device, how many commits it answered with Ok, and how many reads and recoveries it was asked for. Of the card itself: the table of
+-- entries, the index of its rows by events, what is selected on each channel, the verified keys, the toolkit's session, the minds in
+-- the boxes, the shelf of the applet that a DELETE takes away which met a fault, whether it has power, and whether a recovery is due.
 pub record CardParts : Type 0 where
   pub recovered : Bool
   pub byte_count : ℕ

@@ -1,10 +1,11 @@
 -- What the parts of a command do to a card's memory and boxes.
-use Rattle.std.specs.Prelude.{◌≡◌, ◌≢◌, ℕ, List, Option, None, Result, IsOk, OnOk, OnErr}
+use Rattle.std.specs.Prelude.{◌≡◌, ◌≢◌, ◌⊎◌, ℕ, List, Option, None, option_map, IfSome, Result, Ok, Err, IsOk, OnOk, OnErr}
 use Rattle.uicc_types.specs.declared.answers.Answer.{Answer}
 use Rattle.uicc_types.specs.declared.answers.StatusWord.{StatusWord}
 use Rattle.apdu_form.specs.Model.{Apdu}
 use Rattle.store_form.specs.declared.store.StoreFault.{StoreFault}
-use Rattle.card_state.specs.Memory.{Memory, Keeps}
+use Rattle.card_state.specs.Changes.{Change}
+use Rattle.card_state.specs.Memory.{Memory, held, Keeps}
 use Rattle.card_state.specs.Persistent.{Persistent}
 use Rattle.card_state.specs.Standing.{Agrees}
 use Rattle.card_state.specs.States.{pins_of, rows_of}
@@ -18,8 +19,11 @@ use Rattle.file_model.specs.Files.{descriptors_of}
 use Rattle.file_model.specs.Outcomes.{settled_file}
 use Rattle.card_commits.specs.Laws.{IsTold}
 use Rattle.card_commits.specs.Entries.{HasRowOn}
+use Rattle.card_commits.specs.Performing.{StopsAmong}
+use Rattle.card_commits.specs.Writing.{all_written}
 use Rattle.binary_commands.specs.Targets.{IsAnswer, IsRefused}
-use Rattle.file_admin.specs.Outcomes.{AnswersTree, CommitsTree}
+use Rattle.file_admin.specs.Outcomes.{AnswersTree, CommitsTree, changes_by}
+use Rattle.file_admin.specs.Writes.{StopsPreparing}
 use Rattle.event_dispatch.specs.Indexes.{StandsFor}
 use Rattle.proactive_handler.specs.Boxes.{kinds_of}
 use Rattle.proactive_handler.specs.Steps.{Scene}
@@ -39,12 +43,20 @@ pub record TellsOfFiles (result : Result Unit StoreFault) (command : FileCommand
   pub denied : (status : StatusWord) → RefusesFile command (descriptors_of old.table) before apdu status
       → IsOk result × IsRefused status out before after × (new ≡ old)
 
+-- What a command that makes, deletes or resizes a file has written over a store that tells its bytes: after Ok what its changes write, and
+-- where a fault stopped it what some of them write, or a part of what is prepared for one.
+abbrev pub WritesOnTree : {X E : Type 0} → Result X E → Memory → Memory → (Persistent → List Change) → Type 0
+WritesOnTree (Ok done) old new changes = IfSome (held old) (λ state. new.told ≡ option_map (all_written (changes state)) old.told)
+WritesOnTree (Err fault) old new changes = IfSome (held old) (λ state. StopsAmong (changes state) old new ⊎ StopsPreparing (changes state) old new)
+
 -- What a memory of the table tells of a command that makes, deletes or resizes a file.
 pub record TellsOfTree (result : Result Unit StoreFault) (before after : Memory) (old new : List (Option Selection)) (status : StatusWord) (meaning : Persistent → Result TreeOutcome StatusWord) : Type 0 where
   -- its answer, and what it leaves
   pub answers : OnOk result (AnswersTree before.table after.table status old new meaning)
   -- how often it commits
   pub commits : CommitsTree result before after old meaning
+  -- what it writes
+  pub writes : WritesOnTree result before after (λ state. changes_by old (meaning state))
 
 -- What a command of the toolkit keeps, also where a fault stops it.
 pub record KeepsToolkit {X : Type 0} (command : CatCommand) (apdu : Apdu) (old new : Scene) (result : Result X StoreFault) : Type 0 where

@@ -88,13 +88,11 @@ pub record Refuses (old new : Memory) (boxes : List (Option AppletState)) (fault
 
 -- ---- the recoveries of an opening
 
--- the count of recoveries after a refusal for this cause, by the count before: one more, or, where there was no memory for the card, the same
+-- the count of recoveries after a refusal for this cause, by the count before: one more, or, where there was no memory for the card,
+-- the same
 abbrev pub recoveries_at : OpenFault → ℕ → ℕ
-recoveries_at (NotACard at) before = raised before
-recoveries_at (NoBox shelf) before = raised before
-recoveries_at Failed before = raised before
-recoveries_at PowerLost before = raised before
 recoveries_at NoMemory before = before
+recoveries_at fault before = raised before
 
 -- the same after an opening that ended so: one more after Ok
 abbrev pub recoveries_after : {X : Type 0} → Result X OpenFault → ℕ → ℕ

@@ -12,7 +12,7 @@ ghost use Rattle.apdu_form.specs.Classes.{channel_of};
 ghost use Rattle.file_model.specs.Channels.{is_open};
 ghost use Rattle.file_model.specs.Commands.{contents_outcome, file_addressed, file_outcome};
 ghost use Rattle.file_model.specs.LawfulTrees.{AreSelected};
-ghost use Rattle.card_commits.specs.Performing.{Performs, StaysStill};
+ghost use Rattle.card_commits.specs.Performing.{Performs, WritesAll};
 ghost use Rattle.binary_commands.specs.Commands.{IsSomeCommand, IsInPlace};
 ghost use Rattle.binary_commands.specs.Ends.{EndsWell};
 ghost use Rattle.binary_commands.specs.Reads.{access_reads, ReadsOnce};
@@ -50,7 +50,7 @@ use uicc_types::{Answer, AnswerData, StatusWord};
 
 // A command on what a file holds, which its access rule may forbid, over what is selected on its channel.
 #[inline(always)]
-#[tactic(auto, using(binary_commands::proofs::GivesLemmas::stays_still), unfolding(file_model::specs::Commands::contents_outcome, file_model::specs::Commands::file_addressed))]
+#[tactic(auto, unfolding(file_model::specs::Commands::contents_outcome, file_model::specs::Commands::file_addressed))]
 fn on_contents<S: Store>(
     command: ContentsCommand,
     store: &mut S,
@@ -65,8 +65,8 @@ fn on_contents<S: Store>(
     ensures performs { Performs result (memory S.Store store.old loaded.old) (memory S.Store store.new loaded.new)
         out.new selection.new (λ state. settled_file selection.old
         (contents_outcome command state seen.now selection.old apdu.now)) }
-    ensures still { StaysStill (memory S.Store store.old loaded.old) (memory S.Store store.new loaded.new) (λ state.
-        (settled_file selection.old (contents_outcome command state seen.now selection.old apdu.now)).passed) }
+    ensures writes { WritesAll result (memory S.Store store.old loaded.old) (memory S.Store store.new loaded.new) (λ state.
+        (settled_file selection.old (contents_outcome command state seen.now selection.old apdu.now)).changes) }
     ensures denied { (status : StatusWord)
         → file_addressed command (descriptors_of loaded.old) selection.old apdu.now ≡ Err status
         → IsOk result × IsRefused status out.new selection.old selection.new
@@ -93,7 +93,7 @@ fn on_contents<S: Store>(
 
 // A command on files, over what is selected on its channel. The keys are looked at where access is tested.
 #[inline(always)]
-#[tactic(auto, using(binary_commands::proofs::GivesLemmas::stays_still), unfolding(file_model::specs::Commands::file_outcome))]
+#[tactic(auto, unfolding(file_model::specs::Commands::file_outcome))]
 fn on_files<S: Store>(
     command: FileCommand,
     store: &mut S,
@@ -108,10 +108,10 @@ fn on_files<S: Store>(
     ensures performs { Performs result (memory S.Store store.old loaded.old) (memory S.Store store.new loaded.new)
         out.new selection.new (λ state. settled_file selection.old
         (file_outcome command state (keys_seen (pins_of loaded.old) verified.now) selection.old apdu.now)) }
-    ensures still { StaysStill (memory S.Store store.old loaded.old) (memory S.Store store.new loaded.new)
+    ensures writes { WritesAll result (memory S.Store store.old loaded.old) (memory S.Store store.new loaded.new)
         (λ state. (settled_file selection.old
         (file_outcome command state (keys_seen (pins_of loaded.old) verified.now)
-        selection.old apdu.now)).passed) }
+        selection.old apdu.now)).changes) }
     ensures tells { TellsOfFiles result command apdu.now verified.now
         (memory S.Store store.old loaded.old) (memory S.Store store.new loaded.new)
         selection.old selection.new out.new }

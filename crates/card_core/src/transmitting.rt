@@ -15,7 +15,7 @@ impl<S: Store, B: Applet> CardOver<S, B> {
     ghost use Rattle.card_core.specs.Moves.{IsAnswered, Transmits, KeepsCardStore};
     ghost use Rattle.card_core.specs.BinaryReads.{ReadsBinaryOnce};
     ghost use Rattle.card_core.specs.Resetting.{KeepsBytes, RecoversIfDue, Rests};
-    ghost use Rattle.card_core.specs.Transmitting.{CountsCalls, Performs, TellsState};
+    ghost use Rattle.card_core.specs.Transmitting.{CountsCalls, Takes, TellsState};
 
     // Does what is due after an earlier fault.
     fn catch_up(&mut self) -> Result<(), StoreFault>
@@ -110,15 +110,16 @@ impl<S: Store, B: Applet> CardOver<S, B> {
     /// comes to, it leaves as it was what isn't its own to move; after what was due, a card that begins anew takes it.
     ///
     /// Over a store that tells its bytes, an answer other than `6581` comes after one commit for each that the command has, and
-    /// no other. Where the memory fails or power is lost, what it holds is the state after the commits that were acknowledged, or
-    /// after one more; and one that has none leaves the bytes as they were, also then. Over any store how often it commits is
-    /// told as its answer is, but for a command on PINs.
+    /// no other, and the bytes are those after its changes, in order. Where the memory fails or power is lost, the state that it
+    /// holds and the bytes are those after the commits that were acknowledged, or after one more; a fault that comes while the place
+    /// of a file that is made or grows is prepared leaves any bytes there. Over any store how often it commits is told as its answer
+    /// is, but for a command on PINs.
     pub fn transmit(&mut self, apdu: &[u8], out: &mut Answer) -> Result<(), CardFault>
         requires ready { IsCardReady (parts_of S.Store B.Applet self.old) }
         ensures moves { Transmits result (card_of (parts_of S.Store B.Applet self.old))
             (card_of (parts_of S.Store B.Applet self.new)) apdu.now out.new }
         ensures ready { IsCardReady (parts_of S.Store B.Applet self.new) }
-        ensures performs { Performs result (parts_of S.Store B.Applet self.old) (parts_of S.Store B.Applet self.new)
+        ensures performs { Takes result (parts_of S.Store B.Applet self.old) (parts_of S.Store B.Applet self.new)
             apdu.now out.new (self.new ≡ self.old) }
         ensures counts { CountsCalls result (parts_of S.Store B.Applet self.old) (parts_of S.Store B.Applet self.new)
             apdu.now out.new }

@@ -7,6 +7,7 @@ use Rattle.card_core.specs.Registered.{IsUsedOrBlank}
 use Rattle.card_core.proofs.HasNoRowLemmas.{none_comes}
 use Rattle.card_core.proofs.PutBackLemmas.{rows_blank, put_back_so, yields_restored, set_restored, moves_restored}
 use Rattle.card_core.proofs.IsRunningLemmas.{in_order, some_told}
+use Rattle.card_core.proofs.WritingLemmas.{stops_beside}
 use Rattle.card_core.proofs.cards.CardOver.carry_out_by_toolkit.Goals as goal
 
 pub note-requires : goal.note-requires
@@ -23,6 +24,7 @@ pub returns-in-Err-clause-acts : goal.returns-in-Err-clause-acts
 returns-in-Err-clause-acts g c = record {
   says = λ by state known needs. tt;
   yields = λ by state known. yields_restored (parts_of g.S.Store g.B.Applet c.args.self.now) (parts_of g.S.Store g.B.Applet c.serve_toolkit-2.new.self) c.put_back.new.loaded c.in-Err.fault by (Toolkit c.args.command) _ _ _ (c.in-Err.ensures.acts.yields by state known);
+  writes = λ state held. stops_beside (parts_of g.S.Store g.B.Applet c.args.self.now) (parts_of g.S.Store g.B.Applet c.serve_toolkit-2.new.self) c.put_back.new.loaded _ (c.in-Err.ensures.acts.writes state held);
   done = c.in-Err.ensures.acts.done;
   denied = λ status refused. absurd refused;
   moves =

@@ -85,7 +85,7 @@ returns-in-Ok-clause-acts g c =
     (files_move {X = Unit} (Ok tt) c.args.command c.args.apdu.now old _
     (files_moved (channel_of c.args.apdu.now.class) c.channel-channel.result old _ (Some c.on_files.new.selection)
     (subst (λ (table : Loaded). HasOtherFiles table c.on_files.new.loaded) c.deref_mut.ensures.value c.on_files.ensures.files.files) channel c.set.ensures refl refl refl) (returns-in-Ok-clause-still g c))
-    c.on_files.ensures.still tt (record { channels = set; verified = refl; session = refl; boxes = refl }) c.in-Ok.ensures.performs c.in-Ok.ensures.tells
+    tt (record { channels = set; verified = refl; session = refl; boxes = refl }) c.in-Ok.ensures.performs c.in-Ok.ensures.tells c.in-Ok.ensures.writes
     (λ status refused.
     let told = subst (λ (table : Loaded). RefusesFile c.args.command (descriptors_of table) c.in-Some.selection c.args.apdu.now status) (sym c.deref_mut.ensures.value)
     (subst (λ (found : Option Selection). RefusesFile c.args.command (descriptors_of c.args.self.now.loaded.value) (unwrap_or found AT_START) c.args.apdu.now status) there refused) in
@@ -112,7 +112,7 @@ returns-in-Err-clause-acts g c =
     c.deref_mut.result.now c.deref_mut.ensures.value
     (files_move {X = Unit} (Err c.in-Err.fault) c.args.command c.args.apdu.now old _
     (files_kept (channel_of c.args.apdu.now.class) old _ (c.in-Err.ensures.ends.table ∙ c.deref_mut.ensures.value) refl refl refl refl) (returns-in-Err-clause-still g c))
-    c.on_files.ensures.still c.in-Err.fault c.cards_go_on.ensures.rows c.requires.underway.running.stays refl c.in-Err.ensures.performs c.in-Err.ensures.tells
+    c.in-Err.fault c.cards_go_on.ensures.rows c.requires.underway.running.stays refl c.in-Err.ensures.performs c.in-Err.ensures.tells c.in-Err.ensures.writes
     (λ status refused.
     absurd (false≢true (c.in-Err.ensures.tells.denied status (subst (λ (table : Loaded). RefusesFile c.args.command (descriptors_of table) c.in-Some.selection c.args.apdu.now status) (sym c.deref_mut.ensures.value)
     (subst (λ (found : Option Selection). RefusesFile c.args.command (descriptors_of c.args.self.now.loaded.value) (unwrap_or found AT_START) c.args.apdu.now status) there refused))).0))

@@ -50,8 +50,8 @@ returns-in-Err-clause-acts g c =
       session = refl;
       boxes = refl;
     })
-    (λ none. ap g.S.Store.stable (c.named_pin_command.ensures.still none).1) c.tables_have_rows.ensures c.cards_go_on.ensures.rows c.in-Err.fault c.requires.underway.running.stays
-    c.named_pin_command.new.loaded c.in-Err.ensures.performs c.in-Err.ensures.stops
+    c.tables_have_rows.ensures c.cards_go_on.ensures.rows c.in-Err.fault c.requires.underway.running.stays
+    c.named_pin_command.new.loaded c.in-Err.ensures.performs c.in-Err.ensures.stops c.in-Err.ensures.writes
     (λ status refused. absurd (false≢true (c.in-Err.ensures.refused status (ap (λ (table : Loaded). pin_outcome c.args.command (pins_of table) c.args.self.now.verified c.args.apdu.now) c.deref_mut.ensures.value ∙ refused)).0))
 
 pub returns-in-Err-clause-goes_on : goal.returns-in-Err-clause-goes_on
@@ -75,7 +75,7 @@ returns-in-Ok-clause-acts g c =
       session = refl;
       boxes = refl;
     })
-    (λ none. ap g.S.Store.stable (c.named_pin_command.ensures.still none).1) tt (record { channels = refl; session = refl; boxes = refl }) c.named_pin_command.ensures.ends.empty c.in-Ok.ensures.performs c.in-Ok.ensures.comes.carried_out
+    tt (record { channels = refl; session = refl; boxes = refl }) c.named_pin_command.ensures.ends.empty c.in-Ok.ensures.performs c.in-Ok.ensures.comes.carried_out c.in-Ok.ensures.writes
     (λ status refused.
     let told = ap (λ (table : Loaded). pin_outcome c.args.command (pins_of table) c.args.self.now.verified c.args.apdu.now) c.deref_mut.ensures.value ∙ refused in
     let gives = c.in-Ok.ensures.refused status told in

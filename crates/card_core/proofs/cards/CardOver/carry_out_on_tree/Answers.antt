@@ -29,16 +29,14 @@ pub returns-in-Ok-clause-acts : goal.returns-in-Ok-clause-acts
 returns-in-Ok-clause-acts g c =
     trees_act c.args.command c.args.apdu.now (parts_of g.S.Store g.B.Applet c.args.self.now) _ c.on_tree.new.out c.tables_tell_states.ensures c.requires.underway.running c.deref_mut.result.now c.deref_mut.ensures.value
     (tree_moved (parts_of g.S.Store g.B.Applet c.args.self.now) _ c.deref_mut.result.now c.deref_mut.ensures.value c.on_tree.ensures.ends.nodes refl refl refl)
-    (λ store_mark content state stands none. ap g.S.Store.stable (c.on_tree.ensures.still store_mark content state stands none).1) tt
-    (record { verified = refl; session = refl; boxes = refl }) c.on_tree.ensures.ends.empty c.in-Ok.ensures.performs c.in-Ok.ensures.tells.answers c.in-Ok.ensures.tells.commits
+    tt (record { verified = refl; session = refl; boxes = refl }) c.on_tree.ensures.ends.empty c.in-Ok.ensures.performs c.in-Ok.ensures.tells.answers c.in-Ok.ensures.tells.commits c.in-Ok.ensures.tells.writes
 
 pub returns-in-Err-clause-acts : goal.returns-in-Err-clause-acts
 returns-in-Err-clause-acts g c =
     trees_stopped c.args.command c.args.apdu.now (parts_of g.S.Store g.B.Applet c.args.self.now) _ c.on_tree.new.out c.tables_tell_states.ensures c.requires.underway.running c.deref_mut.result.now c.deref_mut.ensures.value
     (tree_moved (parts_of g.S.Store g.B.Applet c.args.self.now) _ c.deref_mut.result.now c.deref_mut.ensures.value c.on_tree.ensures.ends.nodes refl refl refl)
-    (λ store_mark content state stands none. ap g.S.Store.stable (c.on_tree.ensures.still store_mark content state stands none).1)
     c.tables_have_rows.ensures c.cards_go_on.ensures.rows c.in-Err.fault c.requires.underway.running.stays c.in-Err.ensures.performs c.in-Err.ensures.tells.commits
-    (λ store_mark content state stands none. (c.in-Err.ensures.still store_mark content state stands none).0)
+    (λ store_mark content state stands none. (c.in-Err.ensures.still store_mark content state stands none).0) c.in-Err.ensures.tells.writes
 
 pub returns-in-Err-clause-table : goal.returns-in-Err-clause-table
 returns-in-Err-clause-table g c = c.in-Err.ensures.ends.kept ∙ c.deref_mut.ensures.value

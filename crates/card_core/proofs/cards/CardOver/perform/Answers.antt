@@ -1,5 +1,5 @@
 -- What was due is done first and leaves the same card: a fault in that leaves what the command may leave, and else it meets that card.
-use Rattle.std.proofs.Common.{◌≡◌, ℕ, [], Option, sym, ◌∙◌, ap, subst, rules, IfSome, IsSomeAnd, is_some}
+use Rattle.std.proofs.Common.{ℕ, Option, sym, ◌∙◌, ap, subst, rules, IfSome, IsSomeAnd, is_some}
 use Rattle.std.proofs.lemmas.Bool.{false≢true}
 use Rattle.card_state.specs.Standing.{standing}
 use Rattle.card_model.specs.States.{CardState, IsGood}
@@ -9,11 +9,13 @@ use Rattle.card_core.specs.Acting.{in_whole, ActsAs}
 use Rattle.card_core.specs.AnyStore.{command_named}
 use Rattle.card_core.specs.BinaryReads.{ReadsBinaryOnce}
 use Rattle.card_core.specs.Cards.{parts_of, card_of, card_due}
+use Rattle.card_core.specs.Writing.{StopsWriting}
 use Rattle.card_core.proofs.CardOfLemmas.{card_told, due_told}
 use Rattle.card_core.proofs.RestartLemmas.{due_is}
 use Rattle.card_core.proofs.MovesItsOwnLemmas.{acts_anew}
 use Rattle.card_core.proofs.IsGoodLemmas.{comes_from, good_comes, on_ok_of, on_err_of, left_restarted}
-use Rattle.card_core.proofs.CommitsStatesLemmas.{counts_from, if_any, stops_unmoved}
+use Rattle.card_core.proofs.CommitsStatesLemmas.{counts_from, writes_due, if_any, stops_unmoved}
+use Rattle.card_core.proofs.WritingLemmas.{still_cut}
 use Rattle.card_core.proofs.cards.CardOver.perform.Goals as goal
 
 pub returns-in-Ok-clause-answered : goal.returns-in-Ok-clause-answered
@@ -23,7 +25,10 @@ returns-in-Ok-clause-answered g c = record {
       c.args.apdu.now c.carry_out.new.out c.catch_up.ensures.same c.carry_out.ensures.answered.comes;
   counts =
       counts_from c.carry_out.result (parts_of g.S.Store g.B.Applet c.args.self.now) (parts_of g.S.Store g.B.Applet c.catch_up.new.self) (parts_of g.S.Store g.B.Applet c.carry_out.new.self) (λ card. (answer card c.args.apdu.now).commits)
-      c.catch_up.ensures.same c.catch_up.ensures.bytes.commits c.catch_up.ensures.bytes.told c.carry_out.ensures.answered.counts;
+      c.catch_up.ensures.same c.catch_up.ensures.bytes.commits c.carry_out.ensures.answered.counts;
+  writes =
+      writes_due c.carry_out.result (parts_of g.S.Store g.B.Applet c.args.self.now) (parts_of g.S.Store g.B.Applet c.catch_up.new.self) (parts_of g.S.Store g.B.Applet c.carry_out.new.self) (λ card. (answer card c.args.apdu.now).changes)
+      c.catch_up.ensures.same c.catch_up.ensures.bytes.commits c.catch_up.ensures.bytes.told c.carry_out.ensures.answered.writes;
   usual = search rules;
   empty = search rules;
 }
@@ -53,8 +58,10 @@ returns-in-Err-clause-answered g c = record {
     commits = tt;
     stopped = stops_unmoved (parts_of g.S.Store g.B.Applet c.args.self.now) (parts_of g.S.Store g.B.Applet c.catch_up.new.self) (λ card. (answer card c.args.apdu.now).commits) c.catch_up.ensures.bytes.commits
         (ap (λ (mark : ℕ). standing mark (parts_of g.S.Store g.B.Applet c.catch_up.new.self).told) c.catch_up.ensures.rests.mark ∙ ap (standing (parts_of g.S.Store g.B.Applet c.args.self.now).store_mark) c.catch_up.ensures.bytes.told);
-    stable = if_any (card_of (parts_of g.S.Store g.B.Applet c.args.self.now)) (λ card. (answer card c.args.apdu.now).commits ≡ [] → (parts_of g.S.Store g.B.Applet c.catch_up.new.self).told ≡ (parts_of g.S.Store g.B.Applet c.args.self.now).told) (λ card none. c.catch_up.ensures.bytes.told);
   };
+  writes =
+      if_any (card_of (parts_of g.S.Store g.B.Applet c.args.self.now)) (λ card. StopsWriting (answer card c.args.apdu.now).changes (parts_of g.S.Store g.B.Applet c.args.self.now) (parts_of g.S.Store g.B.Applet c.catch_up.new.self))
+      (λ card. still_cut (parts_of g.S.Store g.B.Applet c.args.self.now) (parts_of g.S.Store g.B.Applet c.catch_up.new.self) (answer card c.args.apdu.now).changes c.catch_up.ensures.bytes.told c.catch_up.ensures.bytes.commits);
   usual = search rules;
   empty = search rules;
 }

@@ -9,6 +9,7 @@ use Rattle.card_core.proofs.HasNoRowLemmas.{none_polled}
 use Rattle.card_core.proofs.PutBackLemmas.{rows_blank, put_back_so, yields_restored, set_restored, status_restored}
 use Rattle.card_core.proofs.HasToolkitLemmas.{rows_alone_moved}
 use Rattle.card_core.proofs.IsRunningLemmas.{in_order, some_told}
+use Rattle.card_core.proofs.WritingLemmas.{stops_beside}
 use Rattle.card_core.proofs.cards.CardOver.tell_applets.Goals as goal
 
 pub note-requires : goal.note-requires
@@ -24,6 +25,7 @@ returns-in-Err-clause-table g c =
 pub returns-in-Err-clause-acts : goal.returns-in-Err-clause-acts
 returns-in-Err-clause-acts g c = record {
   yields = λ by state known. yields_restored (parts_of g.S.Store g.B.Applet c.args.self.now) (parts_of g.S.Store g.B.Applet c.serve_status.new.self) c.put_back.new.loaded c.in-Err.fault by (File Status) _ _ _ (c.in-Err.ensures.acts.yields by state known);
+  writes = λ state held. stops_beside (parts_of g.S.Store g.B.Applet c.args.self.now) (parts_of g.S.Store g.B.Applet c.serve_status.new.self) c.put_back.new.loaded _ (c.in-Err.ensures.acts.writes state held);
   moves =
       let some = some_told c.tables_tell_states.ensures _ _ c.args.self.now.loaded.value c.requires.underway.running.mounted.agrees in
       status_restored (parts_of g.S.Store g.B.Applet c.args.self.now) (parts_of g.S.Store g.B.Applet c.serve_status.new.self) c.put_back.new.loaded (returns-in-Err-clause-table g c) c.in-Err.ensures.acts.moves

@@ -1,5 +1,5 @@
 -- After a fault the card is the one due, and all but power stays as perform left it; no command answers 6581 of itself.
-use Rattle.std.proofs.Common.{◌≡◌, ◌⊎◌, ℕ, arith, rules, [], length, Option, true, refl, sym, ◌∙◌, ap, subst, Err, inl, inr, Ok, IfSome, IsSomeAnd}
+use Rattle.std.proofs.Common.{◌≡◌, ◌⊎◌, ℕ, arith, rules, length, Option, true, refl, sym, ◌∙◌, ap, subst, Err, inl, inr, Ok, IfSome, IsSomeAnd}
 use Rattle.std.proofs.lemmas.Bool.{false≢true}
 use Rattle.std.proofs.lemmas.Result.{on_ok_weaker}
 use Rattle.list_laws.proofs.IfSomeLemmas.{on_err}
@@ -14,6 +14,7 @@ use Rattle.card_model.specs.Runs.{IsLeft}
 use Rattle.card_core.specs.AnyStore.{MovesItsOwn}
 use Rattle.card_core.specs.Cards.{parts_of, card_of, held_by, IsCardReady}
 use Rattle.card_core.specs.Moves.{StopsAt}
+use Rattle.card_core.specs.Writing.{StopsWriting}
 use Rattle.card_core.proofs.StopsAtLemmas.{all_commits}
 use Rattle.card_core.proofs.RestartLemmas.{due_same, failed_ready, fail_power, not_lost}
 use Rattle.card_core.proofs.IsGoodLemmas.{fail_moves}
@@ -22,6 +23,7 @@ use Rattle.card_core.proofs.MovesItsOwnLemmas.{still_its_own, refused_anew, left
 use Rattle.card_core.proofs.ActsAsLemmas.{acts_named}
 use Rattle.card_core.proofs.ActsOnLemmas.{answers_told, answers_stood, commits_told, commits_stood, calm_told, calm_stood}
 use Rattle.card_core.proofs.CommitsStatesLemmas.{if_any, stops_unmoved}
+use Rattle.card_core.proofs.WritingLemmas.{still_cut}
 use Rattle.card_core.proofs.cards.CardOver.transmit.Goals as goal
 
 pub returns-in-Err-clause-moves : goal.returns-in-Err-clause-moves
@@ -115,7 +117,8 @@ pub returns-in-Ok-clause-counts : goal.returns-in-Ok-clause-counts
 returns-in-Ok-clause-counts g c = record {
   commits = λ other. c.in-Ok.ensures.answered.counts.commits;
   stopped = inl (refl, (λ is. c.in-Ok.ensures.answered.usual (ap (λ (word : StatusWord). word.0) is)));
-  stable = c.in-Ok.ensures.answered.counts.stable;
+  written = λ other. c.in-Ok.ensures.answered.writes;
+  cut = inl (refl, (λ is. c.in-Ok.ensures.answered.usual (ap (λ (word : StatusWord). word.0) is)));
   recoveries = λ on. c.perform.ensures.recovers;
   reads = λ on rests apdu read named file found.
       let once = c.in-Ok.ensures.asks rests apdu read named file found in
@@ -128,8 +131,10 @@ returns-in-Err-clause-counts g c = record {
   stopped =
       inr (subst (λ card. IfSome (card_of (parts_of g.S.Store g.B.Applet c.args.self.now)) (λ each. StopsAt each.persistent (answer each c.args.apdu.now).commits (parts_of g.S.Store g.B.Applet c.args.self.now).commits (parts_of g.S.Store g.B.Applet card).commits (held_by (parts_of g.S.Store g.B.Applet card)))) (sym c.fail.ensures.others)
       c.in-Err.ensures.answered.counts.stopped);
-  stable =
-      subst (λ card. IfSome (card_of (parts_of g.S.Store g.B.Applet c.args.self.now)) (λ each. (answer each c.args.apdu.now).commits ≡ [] → (parts_of g.S.Store g.B.Applet card).told ≡ (parts_of g.S.Store g.B.Applet c.args.self.now).told)) (sym c.fail.ensures.others) c.in-Err.ensures.answered.counts.stable;
+  written = failed_first _ c.in-Err.fault c.fail.result c.fail.new.out.status c.fail.ensures.failed c.fail.ensures.lost;
+  cut =
+      inr (subst (λ card. IfSome (card_of (parts_of g.S.Store g.B.Applet c.args.self.now)) (λ each. StopsWriting (answer each c.args.apdu.now).changes (parts_of g.S.Store g.B.Applet c.args.self.now) (parts_of g.S.Store g.B.Applet card))) (sym c.fail.ensures.others)
+      c.in-Err.ensures.answered.writes);
   recoveries = λ on.
       let same = ap (λ card. (parts_of g.S.Store g.B.Applet card).recoveries) c.fail.ensures.others in
       record { due = λ is. same ∙ c.perform.ensures.recovers.due is; rests = λ is. same ∙ c.perform.ensures.recovers.rests is };
@@ -149,7 +154,10 @@ pub returns-then-not-self-clause-counts : goal.returns-then-not-self-clause-coun
 returns-then-not-self-clause-counts g c = record {
   commits = tt;
   stopped = inr (stops_unmoved (parts_of g.S.Store g.B.Applet c.args.self.now) (parts_of g.S.Store g.B.Applet c.args.self.now) (λ card. (answer card c.args.apdu.now).commits) refl refl);
-  stable = if_any (card_of (parts_of g.S.Store g.B.Applet c.args.self.now)) (λ card. (answer card c.args.apdu.now).commits ≡ [] → (parts_of g.S.Store g.B.Applet c.args.self.now).told ≡ (parts_of g.S.Store g.B.Applet c.args.self.now).told) (λ card none. refl);
+  written = tt;
+  cut =
+      inr (if_any (card_of (parts_of g.S.Store g.B.Applet c.args.self.now)) (λ card. StopsWriting (answer card c.args.apdu.now).changes (parts_of g.S.Store g.B.Applet c.args.self.now) (parts_of g.S.Store g.B.Applet c.args.self.now))
+      (λ card. still_cut (parts_of g.S.Store g.B.Applet c.args.self.now) (parts_of g.S.Store g.B.Applet c.args.self.now) (answer card c.args.apdu.now).changes refl refl));
   recoveries = λ on. absurd (cc (on, c.if-not-self.true));
   reads = λ on. absurd (cc (on, c.if-not-self.true));
 }
