@@ -1,5 +1,6 @@
 mod AgreesLemmas
 mod ApduOfLemmas
+mod CarriedLemmas
 mod DetailsAreReadLemmas
 mod DutyLemmas
 mod EndsAreBegunLemmas

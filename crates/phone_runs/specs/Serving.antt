@@ -1,5 +1,5 @@
 -- What is known of a handset that serves a card, also where neither the store nor the sink tells its bytes.
-use Rattle.std.specs.Prelude.{◌≡◌, ℕ, ◌<◌, List}
+use Rattle.std.specs.Prelude.{◌≡◌, ◌⊎◌, ℕ, ◌+◌, ◌<◌, ◌≤◌, List}
 use Rattle.uicc_types.specs.declared.answers.Answer.{Answer}
 use Rattle.handset_model.specs.Ending.{work}
 use Rattle.handset_model.specs.History.{Happened, Answered, Restarted, PowerCut, FoundOff}
@@ -7,6 +7,8 @@ use Rattle.handset_model.specs.Legal.{IsOrderly}
 use Rattle.handset_model.specs.Rules.{asked}
 use Rattle.handset_model.specs.declared.known.Duty.TheVariants.{Await, Rest}
 use Rattle.terminal_side.specs.Kept.{Kept, kept}
+use Rattle.run_steps.specs.Carriers.{Carries}
+use Rattle.run_steps.specs.declared.carriers.Carrier.{Carrier}
 use Rattle.run_steps.specs.declared.steps.Reply.{Reply}
 use Rattle.run_steps.specs.declared.steps.Reply.TheVariants as reply
 use Rattle.run_steps.specs.declared.steps.Restarted.{Restarted as AReset}
@@ -33,6 +35,18 @@ pub record IsServedMore (old new : Kept) : Type 0 where
   pub served : IsPhoneServed new
   pub less : work_at new < work_at old
   pub clock : new.known.clock ≡ old.known.clock
+
+-- The handset sent no more commands for its line than so many, and the link of its carrier, where that is one, was given so many TPDUs at
+-- least.
+pub record CarriesMore (old new : Kept) (before after : Carrier) : Type 0 where
+  pub times : ℕ
+  pub sent : new.known.commands ≤ old.known.commands + times
+  pub carried : Carries times before after
+
+-- A line left the handset and its carrier as they were; or the link of that, where it is one, was given a TPDU at least for
+-- each command that it sent for the line.
+abbrev pub LineIsCarried : Kept → Kept → Carrier → Carrier → Type 0
+LineIsCarried old new before after = ((new ≡ old) × (after ≡ before)) ⊎ Carries new.known.commands before after
 
 -- what happens at a handset by a reply to its command
 abbrev pub replied : Reply → Answer → Happened

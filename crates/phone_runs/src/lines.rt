@@ -8,6 +8,7 @@ ghost use Rattle.run_steps.specs.Tallies.{tally};
 ghost use Rattle.phone_runs.specs.LineTallies.{TalliesLines};
 ghost use Rattle.phone_runs.specs.BetweenLines.{EndsAmid, GivesServed, IsBetweenLines, IsLineFurther, IsServing};
 ghost use Rattle.phone_runs.specs.Runs.{Beginning};
+ghost use Rattle.phone_runs.specs.Serving.{LineIsCarried};
 
 use crate::effects::{PhoneEffect, effect_on_phone};
 use crate::playing::play_on_phone;
@@ -21,7 +22,7 @@ use store_form::Store;
 use terminal_side::Phone;
 
 /// Reads the next line after `start` into `line`, and carries it out, as soon as its end was read. What the handset sends goes to the
-/// card by the carrier, and the trace is the same over each. It takes no memory.
+/// card by the carrier: over a link, which counts its TPDUs, or as it is. The trace is the same over each. It takes no memory.
 pub fn serve_line<S: Store, B: Applet, R: Source, W: Sink>(
     script: &mut ScriptReader,
     source: &mut R,
@@ -39,6 +40,7 @@ pub fn serve_line<S: Store, B: Applet, R: Source, W: Sink>(
         → GivesServed text opening given script.new (R.left source.new) phone.new
         (moment_at card.new (W.taken trace.new)) result }
     ensures further { OnOk result (IsLineFurther script.old script.new phone.new) }
+    ensures carried { OnOk result (LineIsCarried phone.old phone.new carrier.old carrier.new) }
     ensures within { (text : List ℕ) → IsWithin text (reading script.old) (R.left source.old)
         → IsWithin text (reading script.new) (R.left source.new) }
     ensures tallies { TalliesLines (tally W.Sink card.old trace.old) (tally W.Sink card.new trace.new)

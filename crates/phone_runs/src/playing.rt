@@ -4,13 +4,14 @@ ghost use Rattle.uicc_types.specs.Counts.{Rose};
 ghost use Rattle.handset_model.specs.History.{span_of};
 ghost use Rattle.handset_model.specs.Legal.{IsBounded};
 ghost use Rattle.terminal_side.specs.Kept.{unstarted};
+ghost use Rattle.run_steps.specs.Carriers.{Carries};
 ghost use Rattle.run_steps.specs.Ends.{moment_at};
 ghost use Rattle.run_steps.specs.Tallies.{Tallies, tally};
 ghost use Rattle.phone_runs.specs.Logs.{Event, Hears, lines_back};
 ghost use Rattle.phone_runs.specs.Playing.{Begins, IsFit, line_of, span_of_move};
 ghost use Rattle.phone_runs.specs.Runs.{Beginning};
 ghost use Rattle.phone_runs.specs.Settling.{IsAt, Settles};
-ghost use Rattle.phone_runs.specs.Serving.{IsAtRest};
+ghost use Rattle.phone_runs.specs.Serving.{IsAtRest, LineIsCarried};
 
 use crate::serving::{Places, settle};
 use applet_trait::Applet;
@@ -44,6 +45,7 @@ pub fn start_phone<S: Store, B: Applet, W: Sink>(
         → Settles given [] phone.new (moment_at card.new (W.taken trace.new)) result }
     ensures rest { OnOk result (IsAtRest phone.new) }
     ensures clock { OnOk result (phone.new.known.clock ≡ 0) }
+    ensures carried { OnOk result (Carries phone.new.known.commands carrier.old carrier.new) }
     ensures failed { result ≡ Err StepEnd.ResetFailed
         → Rose card.old.parts.meter.faults card.new.parts.meter.faults }
     ensures tallies { Tallies (tally W.Sink card.old trace.old) (tally W.Sink card.new trace.new)
@@ -70,6 +72,7 @@ pub fn play_on_phone<S: Store, B: Applet, W: Sink>(
         result }
     ensures rest { OnOk result (IsAtRest phone.new) }
     ensures clock { OnOk result (phone.new.known.clock ≡ phone.old.known.clock + span_of_move line) }
+    ensures carried { OnOk result (LineIsCarried phone.old phone.new carrier.old carrier.new) }
     ensures failed { result ≡ Err StepEnd.ResetFailed
         → Rose card.old.parts.meter.faults card.new.parts.meter.faults }
     ensures tallies { Tallies (tally W.Sink card.old trace.old) (tally W.Sink card.new trace.new)
@@ -104,6 +107,7 @@ pub fn hear_line<S: Store, B: Applet, W: Sink>(
         result }
     ensures rest { OnOk result (IsAtRest phone.new) }
     ensures clock { OnOk result (phone.new.known.clock ≡ phone.old.known.clock + span_of line.now) }
+    ensures carried { OnOk result (Carries phone.new.known.commands carrier.old carrier.new) }
     ensures failed { result ≡ Err StepEnd.ResetFailed
         → Rose card.old.parts.meter.faults card.new.parts.meter.faults }
     ensures tallies { Tallies (tally W.Sink card.old trace.old) (tally W.Sink card.new trace.new)

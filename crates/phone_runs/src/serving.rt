@@ -9,7 +9,7 @@ ghost use Rattle.run_steps.specs.Tallies.{Tallies, tally};
 ghost use Rattle.phone_runs.specs.Logs.{Event, lines_back};
 ghost use Rattle.phone_runs.specs.Runs.{Beginning};
 ghost use Rattle.phone_runs.specs.Settling.{GoesFurther, IsAt, Settles};
-ghost use Rattle.phone_runs.specs.Serving.{IsAtRest, IsPhoneServed, IsServedMore, replied, reset_by};
+ghost use Rattle.phone_runs.specs.Serving.{CarriesMore, IsAtRest, IsPhoneServed, IsServedMore, replied, reset_by};
 
 use applet_trait::Applet;
 use byte_streams::{Failed, Sink};
@@ -56,6 +56,7 @@ pub fn settle<S: Store, B: Applet, W: Sink>(
         → Settles given (lines_back log) phone.new (moment_at card.new (W.taken trace.new)) result }
     ensures rest { OnOk result (IsAtRest phone.new) }
     ensures clock { OnOk result (phone.new.known.clock ≡ phone.old.known.clock) }
+    ensures carried { OnOk result (CarriesMore phone.old phone.new carrier.old carrier.new) }
     ensures failed { result ≡ Err StepEnd.ResetFailed
         → Rose card.old.parts.meter.faults card.new.parts.meter.faults }
     ensures tallies { Tallies (tally W.Sink card.old trace.old) (tally W.Sink card.new trace.new)
@@ -85,6 +86,7 @@ fn serve<S: Store, B: Applet, W: Sink>(
     ensures more { result ≡ Ok true → IsServedMore phone.old phone.new }
     ensures rests { result ≡ Ok false → phone.new.asked ≡ duty.Rest }
     ensures same { result ≡ Ok false → phone.new ≡ phone.old }
+    ensures carried { OnOk result (CarriesMore phone.old phone.new carrier.old carrier.new) }
     ensures failed { result ≡ Err StepEnd.ResetFailed
         → card.new.parts.meter.faults ≡ raised card.old.parts.meter.faults }
     ensures tallies { Tallies (tally W.Sink card.old trace.old) (tally W.Sink card.new trace.new)

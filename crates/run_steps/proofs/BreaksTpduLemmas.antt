@@ -31,6 +31,7 @@ module _ (tpdu : List ℕ) (old : CardView) (course : Course) (keeps kept : Opti
     gives = delivered.gives;
     written = told_more taken mid now (item_text (item.Command tpdu)) (item_text reply) replied command ∙ ap (append_known taken) (text_of_two (item.Command tpdu) reply);
     counted = delivered.counted;
+    back = delivered.back;
     waits = delivered.waits;
     rests = delivered.rests;
   }
@@ -58,6 +59,7 @@ module _ (tpdu : List ℕ) (old : CardView) (course : Course) (keeps kept : Opti
         };
         written = told_more taken mid now (item_text (item.Command tpdu)) front.front front.written command;
         counted = delivered.counted;
+        back = delivered.back;
       }
 
 -- the sink failed in the line of the TPDU
@@ -76,4 +78,5 @@ breaks_tpdu tpdu old course keeps end taken now is broken =
       cut_off = in_one_line (item.Command tpdu) taken now front;
       written = front.written;
       counted = idle_counted end.parts.meter;
+      back = tt;
     }

@@ -26,7 +26,7 @@ use Rattle.run_steps.specs.Taking.{machine_of, RestsOn, seen}
 use Rattle.run_steps.specs.Stepping.{IsSeenBy}
 use Rattle.run_steps.specs.Views.{CardView, IsBare}
 use Rattle.run_steps.proofs.SendsLemmas.{bare_reply, sends_off}
-use Rattle.run_steps.proofs.SteppingLemmas.{Showed, WithPlan, command_showed, counted_after, idle_counted, none_waits, rests_back, seen_back, seen_set, still_rests, with_command, with_plan}
+use Rattle.run_steps.proofs.SteppingLemmas.{Showed, WithPlan, command_showed, counted_after, idle_counted, none_waits, rests_back, seen_back, seen_set, still_rests, taken_back, with_command, with_plan}
 
 -- ---- a command that is passed to a card's end
 
@@ -82,6 +82,7 @@ passed_on plans apdu make old from set sent to shown reply kept with_it showed b
   seen = seen_back (names_fault from.waiting) sent to showed.card with_it.back showed.seen;
   gives = record { shown = shown; came = refl; gives = showed.gives; bare = bare; seen = replied; keeps = keeps };
   counted = command_counted plans from.parts.meter set.parts.meter sent.parts.meter to.parts.meter from.waiting apdu shown (ap (λ (e : End). e.parts.meter) with_it.given) (ap (λ (e : End). e.parts.meter) with_it.back) counted;
+  back = taken_back from set sent to with_it;
   waits = none_waits from set sent to with_it;
   rests = rests_back showed.card (item.Command apdu ∷ shown ∷ []) shown from.parts.is_due sent.parts.is_due to.parts.is_due (ap (λ (e : End). e.parts.is_due) with_it.back) (λ calm. calm) (λ none. absurd (cc)) showed.rests;
 }
@@ -102,6 +103,7 @@ module _ (words : EndpointWords End) (old : CardView) (from set sent to : End) (
         seen = subst (λ (e : End). IsSeenBy old (machine_of e.parts) e.parts.is_on) (sym stays) is;
         gives = record { silent = refl; seen = ap (λ (l : Linked). item_of l.answer) exchanged.1; keeps = ap (λ (l : Linked). l.kept) exchanged.1; stays = refl };
         counted = subst (λ (e : End). IsCounted from.parts.meter e.parts.meter [] []) (sym stays) (idle_counted from.parts.meter);
+        back = tt;
         waits = ap (λ (e : End). e.waiting) stays;
         rests = subst (λ (e : End). RestsOn old [] from.parts.is_due e.parts.is_due) (sym stays) (still_rests old from.parts.is_due);
       }

@@ -1,5 +1,6 @@
 mod BareBytesLemmas
 mod BreaksTpduLemmas
+pub mod CarriesLemmas
 mod ComesLemmas
 mod DeliversLemmas
 pub mod GoesOnLemmas

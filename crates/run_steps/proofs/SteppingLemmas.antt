@@ -26,7 +26,7 @@ use Rattle.run_steps.specs.declared.steps.Restarted.{Restarted}
 use Rattle.run_steps.specs.declared.steps.Restarted.TheVariants as ended
 use Rattle.run_steps.specs.Ends.{Comes, End, TakesReset, disarmed, moment_at, planned, unplanned, with_plan_set, without_plan}
 use Rattle.run_steps.specs.Runs.{ends_calm, is_calm, item_text, line_of, text_of}
-use Rattle.run_steps.specs.Taking.{machine_of, BreaksStep, EndsStep, GivesShowing, GivesStep, Rests, RestsOn, Sends, TakesShowing, TakesStep, moment, restarted_by, shown_of}
+use Rattle.run_steps.specs.Taking.{machine_of, BreaksStep, EndsStep, GivesShowing, GivesStep, IsTakenBack, Rests, RestsOn, Sends, TakesShowing, TakesStep, moment, restarted_by, shown_of}
 use Rattle.run_steps.specs.Stepping.{BreaksOff, Holds, IsCutOff, IsSeenBy, Stands}
 use Rattle.run_steps.specs.Views.{CardView, IsReply, ItsPower, Known, LastShows, StepShows, TheCard}
 use Rattle.run_steps.specs.declared.steps.StepEnd.{StepEnd}
@@ -89,6 +89,14 @@ counted_after plans from mid sent to waiting shown given back counted =
     subst (λ set. IsCounted from to set shown) (sym (append-nil (due waiting)))
     (subst (λ m. IsCounted from m (due waiting) shown) (sym back) (counted_by plans from sent waiting shown (names_fault waiting) refl (subst (λ m. IsCounted m sent [] shown) given counted)))
 
+-- and after it was taken back no call came
+back_by : (waiting : Plan) (sent : Meter) (named : Bool) → IsTakenBack ((if named then waiting ∷ [] else []) ++ []) (if named then plan_given sent NONE else sent)
+back_by waiting sent true = refl
+back_by waiting sent false = tt
+
+pub back_after : (sent to : Meter) (waiting : Plan) → to ≡ unplanned (names_fault waiting) sent → IsTakenBack (due waiting ++ []) to
+back_after sent to waiting back = subst (λ m. IsTakenBack (due waiting ++ []) m) (sym back) (back_by waiting sent (names_fault waiting))
+
 -- the command itself counts nothing
 pub with_command : (from to : Meter) (set : List Plan) (apdu : List ℕ) (shown : TraceItem) → IsCounted from to set (shown ∷ []) → IsCounted from to set (item.Command apdu ∷ shown ∷ [])
 with_command from to set apdu shown counted = record { failures = counted.failures; cuts = counted.cuts; plans = counted.plans; latest = counted.latest; no_plan = counted.no_plan }
@@ -122,6 +130,9 @@ pub record WithPlan (from set sent after : End) : Type 0 where
 -- and so it was where the device was told as much
 pub with_plan : (from set sent after : End) (is_given : Bool) → set ≡ with_plan_set from → is_given ≡ names_fault from.waiting → sent.waiting ≡ set.waiting → after ≡ without_plan is_given sent → WithPlan from set sent after
 with_plan from set sent after is_given given named waits back = record { given = given; waits = waits; back = back ∙ ap (λ b. without_plan b sent) named }
+
+pub taken_back : (from set sent after : End) → WithPlan from set sent after → IsTakenBack (due from.waiting ++ []) after.parts.meter
+taken_back from set sent after done = back_after sent.parts.meter after.parts.meter from.waiting (ap (λ (e : End). e.parts.meter) done.back)
 
 pub none_waits : (from set sent after : End) → WithPlan from set sent after → after.waiting ≡ NONE
 none_waits from set sent after done = ap (λ (e : End). e.waiting) done.back ∙ done.waits ∙ ap (λ (e : End). e.waiting) done.given
@@ -239,6 +250,7 @@ rests_back (ItsPower on) items shown from sent after same last some rests = tt
 -- a step that was taken, with a plan set before it and taken back after it: its last line was written, or the sink failed in that
 module _ (old : CardView) (step : Step) (whole : List TraceItem) (shown : TraceItem) (from set sent after : End) (taken mid now : Option (List ℕ)) (plans : PlansAreCounted)
     (showed : Showed old step (whole ++ shown ∷ []) shown sent.parts) (with_it : WithPlan from set sent after) (counts : IsCounted from.parts.meter after.parts.meter (armed_after from.waiting (step ∷ [])) (whole ++ shown ∷ []))
+    (back : IsTakenBack (armed_after from.waiting (step ∷ [])) after.parts.meter)
     (waits : waiting_after from.waiting (step ∷ []) ≡ NONE) (last : ends_calm (whole ++ shown ∷ []) ≡ true → is_calm shown ≡ true) (some : whole ++ shown ∷ [] ≡ [] → ⊥)
     (off : (card : CardView) → StepShows old step (whole ++ shown ∷ []) card → BreaksOff old step (whole ++ shown ∷ []) (armed_after from.waiting (step ∷ [])) (armed_after from.waiting (step ∷ [])) card)
     (told : mid ≡ append_known taken (text_of whole)) where
@@ -252,6 +264,7 @@ module _ (old : CardView) (step : Step) (whole : List TraceItem) (shown : TraceI
       gives = showed.gives;
       written = told_more taken mid now (text_of whole) (item_text shown) ok told ∙ ap (append_known taken) (text_behind whole shown);
       counted = counts;
+      back = back;
       waits = none_waits from set sent after with_it ∙ sym waits;
       rests = rests_back showed.card (whole ++ shown ∷ []) shown from.parts.is_due sent.parts.is_due after.parts.is_due (ap (λ (e : End). e.parts.is_due) with_it.back) last some showed.rests;
     };
@@ -269,6 +282,7 @@ module _ (old : CardView) (step : Step) (whole : List TraceItem) (shown : TraceI
         cut_off = record { whole = whole; last = shown; part = front.front; parted = refl; begun = front.begun; written = refl };
         written = told_more taken mid now (text_of whole) front.front front.written told;
         counted = counts;
+        back = back;
       }
   writes_last (Err ResetFailed) ok err sink = absurd (cc)
 
@@ -288,7 +302,7 @@ exchanges_at result apdu old from set sent after taken mid now shown plans is wi
     writes_last old (step.Apdu apdu) (item.Command apdu ∷ []) shown from set sent after taken mid now plans
     (command_showed old apdu shown set.parts sent.parts (seen_set from set old with_it.given is) comes.sends comes.replies) with_it
     (with_command from.parts.meter after.parts.meter (due from.waiting ++ []) apdu shown (counted_with_plan plans from set sent after shown with_it comes.counted))
-    refl (λ calm. calm) (λ none. absurd (cc)) (λ card gives. inr (gives, refl))
+    (taken_back from set sent after with_it) refl (λ calm. calm) (λ none. absurd (cc)) (λ card gives. inr (gives, refl))
     (command ∙ ap (append_known taken) (sym (text_of_one (item.Command apdu)))) result ok err sink
 
 -- the line of the command broke off
@@ -306,7 +320,8 @@ breaks_command apdu old from taken now is broken =
       broken = inl (refl, refl, refl);
       cut_off = in_one_line (item.Command apdu) taken now front;
       written = front.written;
-      counted = record { failures = counted.failures; cuts = counted.cuts; plans = counted.plans; latest = counted.latest; no_plan = counted.no_plan };
+      counted = record { failures = counted.failures; cuts = counted.cuts; plans = counted.plans; latest = counted.latest; in_force = counted.in_force; settings = counted.settings };
+      back = tt;
     }
 
 -- ---- a reset
@@ -322,7 +337,7 @@ module _ (old : CardView) (from set sent after : End) (taken now : Option (List 
       → GivesShowing result (λ done. restarted_by outcome) old step.Reset (moment_at from taken) (moment_at after now)
   restarts_at result outcome takes ok err sink =
       writes_last old step.Reset [] (shown_of (Ok outcome)) from set sent after taken taken now plans (reset_showed old outcome set.parts sent.parts (seen_set from set old with_it.given seen) takes) with_it
-      (counted_with_plan plans from set sent after (shown_of (Ok outcome)) with_it takes.counted) refl (λ calm. calm) (λ none. absurd (cc)) (λ card gives. (inl gives, refl)) (sym (taken_none taken)) result ok err sink
+      (counted_with_plan plans from set sent after (shown_of (Ok outcome)) with_it takes.counted) (taken_back from set sent after with_it) refl (λ calm. calm) (λ none. absurd (cc)) (λ card gives. (inl gives, refl)) (sym (taken_none taken)) result ok err sink
 
   -- the memory failed in it, and the line that says so was written
   restart_failed : (failed : MemoryFailed) → TakesReset set.parts (Err failed) sent.parts → now ≡ append_known taken (item_text item.EepromFailed) → EndsStep old step.Reset (moment_at from taken) (moment_at after now)
@@ -335,6 +350,7 @@ module _ (old : CardView) (from set sent after : End) (taken now : Option (List 
         ends = ended_so.ends;
         written = ok ∙ ap (append_known taken) (sym (text_of_one item.EepromFailed));
         counted = counted_with_plan plans from set sent after item.EepromFailed with_it takes.counted;
+        back = taken_back from set sent after with_it;
       }
 
   -- the sink failed in its line
@@ -353,6 +369,7 @@ module _ (old : CardView) (from set sent after : End) (taken now : Option (List 
         cut_off = in_one_line item.EepromFailed taken now front;
         written = front.written;
         counted = counted_with_plan plans from set sent after item.EepromFailed with_it takes.counted;
+        back = taken_back from set sent after with_it;
       }
 
   -- the line was that of its outcome
@@ -404,6 +421,7 @@ plans_more old from to taken plan is joins =
       gives = still_shows old plan;
       written = sym (taken_none taken);
       counted = idle_counted from.parts.meter;
+      back = tt;
       waits = refl;
       rests = still_rests old from.parts.is_due;
     })

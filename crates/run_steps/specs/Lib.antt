@@ -1,3 +1,4 @@
+pub mod Carriers
 pub mod Ends
 pub mod Le
 pub mod Linked

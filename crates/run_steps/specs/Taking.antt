@@ -2,6 +2,7 @@
 -- say this; a whole run is told without it.
 use Rattle.std.specs.Prelude.{Option, option_map, ℕ, List, ◌≡◌, Bool, true, false, [], ◌∷◌, Some, Result, Ok, Err}
 use Rattle.std.specs.Io.KnownBytes.{append_known}
+use Rattle.uicc_types.specs.Counts.{Meter}
 use Rattle.uicc_types.specs.declared.answers.Answer.{Answer}
 use Rattle.uicc_types.specs.declared.plans.Plan.{Plan}
 use Rattle.uicc_types.specs.declared.runs.Step.{Step}
@@ -41,6 +42,11 @@ RestsOn card shown was_due is_due = Known (λ machine. (shown ≡ [] → was_due
 abbrev pub Rests : CardView → List TraceItem → Bool → Type 0
 Rests card shown is_due = Known (λ machine. ends_calm shown ≡ true → is_due ≡ false) (λ on. Unit {0}) card
 
+-- Where a plan was given to the device, it was taken back after the last call: none came to it since.
+abbrev pub IsTakenBack : List Plan → Meter → Type 0
+IsTakenBack [] meter = Unit {0}
+IsTakenBack (plan ∷ plans) meter = meter.is_idle ≡ true
+
 -- a step was taken, and all that it shows
 pub record TakesStep (old : CardView) (step : Step) (from to : Moment) : Type 0 where
   pub card : CardView
@@ -49,6 +55,7 @@ pub record TakesStep (old : CardView) (step : Step) (from to : Moment) : Type 0 
   pub gives : StepShows old step shown card
   pub written : to.taken ≡ append_known from.taken (text_of shown)
   pub counted : IsCounted from.meter to.meter (armed_after from.waiting (step ∷ [])) shown
+  pub back : IsTakenBack (armed_after from.waiting (step ∷ [])) to.meter
   pub waits : to.waiting ≡ waiting_after from.waiting (step ∷ [])
   pub rests : RestsOn card shown from.is_due to.is_due
 
@@ -63,6 +70,7 @@ pub record BreaksStep (old : CardView) (step : Step) (from to : Moment) : Type 0
   pub cut_off : IsCutOff pending front
   pub written : to.taken ≡ append_known from.taken front
   pub counted : IsCounted from.meter to.meter set pending
+  pub back : IsTakenBack set to.meter
 
 -- a step was the last
 pub record EndsStep (old : CardView) (step : Step) (from to : Moment) : Type 0 where
@@ -72,6 +80,7 @@ pub record EndsStep (old : CardView) (step : Step) (from to : Moment) : Type 0 w
   pub ends : LastShows old step shown card
   pub written : to.taken ≡ append_known from.taken (text_of shown)
   pub counted : IsCounted from.meter to.meter (armed_after from.waiting (step ∷ [])) shown
+  pub back : IsTakenBack (armed_after from.waiting (step ∷ [])) to.meter
 
 -- what a step comes to
 abbrev pub GivesStep : Result (Unit {0}) StepEnd → CardView → Step → Moment → Moment → Type 0

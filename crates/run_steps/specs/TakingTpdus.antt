@@ -14,7 +14,7 @@ use Rattle.run_steps.specs.Ends.{End, with_plan_set}
 use Rattle.run_steps.specs.Runs.{text_of}
 use Rattle.run_steps.specs.Tpdus.{shown_for, steps_of, CourseGives, BreaksOffTpdu}
 use Rattle.run_steps.specs.Stepping.{IsSeen, Moment, Holds, IsCutOff, IsSeenBy}
-use Rattle.run_steps.specs.Taking.{RestsOn, machine_of}
+use Rattle.run_steps.specs.Taking.{IsTakenBack, RestsOn, machine_of}
 use Rattle.run_steps.specs.Views.{CardView}
 
 -- it was taken, and both its lines were written
@@ -26,6 +26,7 @@ pub record TakesTpdu (old : CardView) (tpdu : List ℕ) (course : Course) (kept 
   pub gives : CourseGives course old own reply kept card
   pub written : to.taken ≡ append_known from.taken (text_of (shown_for tpdu reply))
   pub counted : IsCounted from.meter to.meter (armed_after from.waiting (steps_of course)) own
+  pub back : IsTakenBack (armed_after from.waiting (steps_of course)) to.meter
   pub waits : to.waiting ≡ waiting_after from.waiting (steps_of course)
   pub rests : RestsOn card own from.is_due to.is_due
 
@@ -41,6 +42,7 @@ pub record BreaksTpdu (old : CardView) (tpdu : List ℕ) (course : Course) (keep
   pub cut_off : IsCutOff pending front
   pub written : to.taken ≡ append_known from.taken front
   pub counted : IsCounted from.meter to.meter set own
+  pub back : IsTakenBack set to.meter
 
 -- what a TPDU comes to, by what the link kept before it and keeps after it
 abbrev pub GivesTpdu : Result ⊤ Failed → CardView → List ℕ → Course → Option Answer → Option Answer → Moment → Moment → Type 0
@@ -59,5 +61,6 @@ pub record Delivers (old : CardView) (course : Course) (reply : TraceItem) (kept
   pub seen : IsSeenBy card (machine_of to.parts) to.parts.is_on
   pub gives : CourseGives course old own reply kept card
   pub counted : IsCounted from.parts.meter to.parts.meter (armed_after from.waiting (steps_of course)) own
+  pub back : IsTakenBack (armed_after from.waiting (steps_of course)) to.parts.meter
   pub waits : to.waiting ≡ waiting_after from.waiting (steps_of course)
   pub rests : RestsOn card own from.parts.is_due to.parts.is_due

@@ -1,6 +1,7 @@
 //! How a terminal's commands come to the card.
 ghost use Rattle.std.specs.Prelude.{◌≡◌, IsTrue};
-ghost use Rattle.t0_link.specs.Carrying.{carried};
+ghost use Rattle.t0_link.specs.Carrying.{RoseBy, carried, tpdus_for};
+ghost use Rattle.run_steps.specs.Carriers.{Carries};
 ghost use Rattle.run_steps.specs.Ends.{Comes, reply_for};
 ghost use Rattle.run_steps.specs.Taking.{seen};
 
@@ -22,8 +23,8 @@ pub enum Carrier {
 }
 
 impl Carrier {
-    // Has the card take a command. One that the link does not carry goes to the card as it is. Most commands go so, and over a link
-    // there is more to do than a call.
+    // Has the card take a command. One that the link does not carry goes to the card as it is; any other one goes over it, by its TPDU and
+    // by GET RESPONSE for the data that are left there. Most commands go without a link, and over one there is more to do than a call.
     #[inline(always)]
     pub(crate) fn send<S: Store, B: Applet>(
         &mut self,
@@ -31,11 +32,18 @@ impl Carrier {
         apdu: &[u8],
         answer: &mut Answer,
     ) -> Reply
-        ensures { Comes end.old apdu.now (seen result answer.new) end.new }
+        ensures comes { Comes end.old apdu.now (seen result answer.new) end.new }
+        ensures carries { Carries (tpdus_for apdu.now answer.new.body) self.old self.new }
     {
         match self {
-            Carrier::Link(link) if is_carried(apdu) => send_over(link, end, apdu, answer),
-            Carrier::Link(_) | Carrier::Direct => send(end, apdu, answer),
+            Carrier::Direct => send(end, apdu, answer),
+            Carrier::Link(link) => {
+                if is_carried(apdu) {
+                    send_over(link, end, apdu, answer)
+                } else {
+                    send(end, apdu, answer)
+                }
+            }
         }
     }
 }
@@ -56,7 +64,8 @@ fn send_over<S: Store, B: Applet>(
     answer: &mut Answer,
 ) -> Reply
     requires { IsTrue (carried apdu.now) }
-    ensures { Comes end.old apdu.now (seen result answer.new) end.new }
+    ensures comes { Comes end.old apdu.now (seen result answer.new) end.new }
+    ensures carries { RoseBy (tpdus_for apdu.now answer.new.body) link.old.tpdus link.new.tpdus }
 {
     // This call is a law, and does nothing.
     link_changes_no_step();

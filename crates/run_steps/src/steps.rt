@@ -7,6 +7,8 @@ ghost use Rattle.uicc_types.specs.declared.byte_lists.TheConstants.{LONGEST_COMM
 ghost use Rattle.uicc_types.specs.declared.runs.Step.TheVariants as step;
 ghost use Rattle.byte_streams.specs.Streams.{TakesFront};
 ghost use Rattle.script_form.specs.Traces.{trace_text};
+ghost use Rattle.t0_link.specs.Carrying.{tpdus_for};
+ghost use Rattle.run_steps.specs.Carriers.{Carries};
 ghost use Rattle.run_steps.specs.Ends.{moment_at};
 ghost use Rattle.run_steps.specs.Moves.{IsShort, step_of};
 ghost use Rattle.run_steps.specs.Runs.{item_text, line_of};
@@ -93,8 +95,8 @@ pub fn take_step<S: Store, B: Applet, W: Sink>(
 }
 
 /// Sends a command to the card, as it is or over a link, and answers what came of it; an answer stands in `answer`. The command's
-/// line is written first, and where the sink fails in it, the card is sent nothing. The trace is the same over either carrier. Each
-/// command passes through it, so it is inlined.
+/// line is written first, and where the sink fails in it, the card is sent nothing. The trace is the same over either carrier; over a link
+/// that carries the command its TPDUs are counted there. Each command passes through it, so it is inlined.
 #[inline(always)]
 pub fn exchange<S: Store, B: Applet, W: Sink>(
     end: &mut CardEnd<S, B>,
@@ -109,6 +111,7 @@ pub fn exchange<S: Store, B: Applet, W: Sink>(
         → GivesShowing result (exchanged apdu.now answer.new) old (step.Apdu apdu.now)
         (moment_at end.old (W.taken trace.old)) (moment_at end.new (W.taken trace.new)) }
     ensures ends { result ≢ Err StepEnd.ResetFailed }
+    ensures carries { OnOk result (Carries (tpdus_for apdu.now answer.new.body) carrier.old carrier.new) }
     ensures tallies { Tallies (tally W.Sink end.old trace.old) (tally W.Sink end.new trace.new)
         (result ≡ Err StepEnd.SinkFailed) }
 {

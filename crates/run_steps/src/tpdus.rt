@@ -38,8 +38,8 @@ fn deliver<S: Store, B: Applet>(
     answer: &mut Answer,
 ) -> Reply
     ensures delivers { (old : CardView) → IsSeenBy old (machine_of end.old.parts) end.old.parts.is_on
-        → Delivers old (link_answer link.old tpdu.now) (seen result answer.new) link.new end.old end.new }
-    ensures stays { (IsPassed (link_answer link.old tpdu.now) → ⊥) → end.new ≡ end.old }
+        → Delivers old (link_answer link.old.kept tpdu.now) (seen result answer.new) link.new.kept end.old end.new }
+    ensures stays { (IsPassed (link_answer link.old.kept tpdu.now) → ⊥) → end.new ≡ end.old }
     ensures kept { end.old.parts.meter.faults ≤ end.new.parts.meter.faults }
 {
     // This call is a law, and does nothing.
@@ -63,9 +63,9 @@ pub fn take_tpdu<S: Store, B: Applet, W: Sink>(
     requires { length tpdu.now ≤ LONGEST_COMMAND }
     // By what is known of the card: the card itself where its memory tells its bytes, and its power over any memory.
     ensures gives { (old : CardView) → IsSeen old (moment_at end.old (W.taken trace.old))
-        → GivesTpdu result old tpdu.now (link_answer link.old tpdu.now) link.old link.new
+        → GivesTpdu result old tpdu.now (link_answer link.old.kept tpdu.now) link.old.kept link.new.kept
         (moment_at end.old (W.taken trace.old)) (moment_at end.new (W.taken trace.new)) }
-    ensures stays { (IsPassed (link_answer link.old tpdu.now) → ⊥) → end.new ≡ end.old }
+    ensures stays { (IsPassed (link_answer link.old.kept tpdu.now) → ⊥) → end.new ≡ end.old }
     ensures tallies { Tallies (tally W.Sink end.old trace.old) (tally W.Sink end.new trace.new) (IsErr result) }
 {
     match write_command(trace, tpdu) {

@@ -1,5 +1,5 @@
 -- The course of a command.
-use Rattle.std.proofs.Common.{◌≡◌, ℕ, List, Some, None, Ok, Err, ◌∙◌, ap, ◌↔◌, Bool, false, Option, IsTrue, Result, OnOk}
+use Rattle.std.proofs.Common.{◌≡◌, ℕ, List, Some, None, Ok, Err, ◌∙◌, ap, ◌↔◌, Bool, false, Option, IsTrue, Result, OnOk, subst}
 use Rattle.std.specs.Prelude.{⊤}
 use Rattle.uicc_types.specs.declared.answers.Answer.{Answer}
 use Rattle.apdu_form.specs.Model.{Apdu}
@@ -8,7 +8,7 @@ use Rattle.t0_link.specs.declared.endpoint.LinkFault.{LinkFault}
 use Rattle.t0_link.specs.declared.endpoint.LinkFault.TheVariants.{NoPower}
 use Rattle.t0_link.specs.declared.tpdus.Transfer.{Transfer}
 use Rattle.t0_link.specs.declared.tpdus.Transfer.TheVariants.{GetResponse, Outgoing, Incoming}
-use Rattle.t0_link.specs.Tpdus.{transfer_of}
+use Rattle.t0_link.specs.Tpdus.{transfer_of, transfer_in}
 use Rattle.t0_link.proofs.CommandAnswerLemmas.{by_transfer, tpdu_fits}
 use Rattle.t0_link.specs.Linking.{Linked, Course, Answers, Passes, given, course_of, link_answer}
 use Rattle.t0_link.specs.Carrying.{is_carried, is_carried_by, tpdu_of, received, then_received, command_answer}
@@ -16,6 +16,10 @@ use Rattle.t0_link.specs.Exchanging.{HasPassed, Exchanges, IsPassed}
 use Rattle.t0_link.specs.Transmitting.{Transmits}
 
 -- ---- a TPDU
+
+-- what holds of the course by the way of a TPDU's data holds of the link's answer, where the link keeps what it kept
+pub by_kept : (P : Course → Type 0) (kept before : Option Answer) (tpdu : List ℕ) (transfer : Option Transfer) → kept ≡ before → transfer ≡ transfer_in tpdu → P (course_of kept tpdu transfer) → P (link_answer before tpdu)
+by_kept P kept before tpdu transfer same is known = subst (λ (k : Option Answer). P (link_answer k tpdu)) same (by_transfer P kept tpdu transfer is known)
 
 -- the link answers by itself: it isn't `NoPower`
 pub own_off : (on : Bool) → (◌≡◌ {A = Result ⊤ LinkFault} (Ok tt) (Err NoPower)) ↔ (⊥ × (on ≡ false))

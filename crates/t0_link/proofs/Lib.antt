@@ -1,3 +1,4 @@
 pub mod CommandAnswerLemmas
 mod CourseLemmas
+mod TpdusSentLemmas
 mod worked

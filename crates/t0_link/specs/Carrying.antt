@@ -1,5 +1,5 @@
 -- A command over the link: the terminal sends it as a TPDU, and fetches its data.
-use Rattle.std.specs.Prelude.{ℕ, ◌/◌, ◌%◌, ◌==◌, ◌&&◌, ◌||◌, Bool, true, false, if◌then◌else◌, List, ◌∷◌, length, Option, Some, None, is_some, unwrap_or}
+use Rattle.std.specs.Prelude.{ℕ, ◌+◌, ◌-◌, ◌^◌, ◌≤◌, ◌/◌, ◌%◌, ◌==◌, ◌&&◌, ◌||◌, Bool, true, false, if◌then◌else◌, List, ◌∷◌, length, min, Option, Some, None, is_some, unwrap_or}
 use Rattle.uicc_types.specs.declared.answers.Answer.{Answer}
 use Rattle.apdu_form.specs.Model.{Apdu, command_in, cut_to}
 use Rattle.t0_link.specs.declared.answers.TheConstants.{MORE_DATA}
@@ -48,9 +48,13 @@ tpdu_of command = command.class ∷ command.ins ∷ command.p1 ∷ command.p2 �
 abbrev pub cut_answer_to : Option ℕ → Answer → Answer
 cut_answer_to expected answer = record answer { body = cut_to expected answer.body }
 
+-- the answer is 61XX: data wait
+abbrev pub is_followed : Answer → Bool
+is_followed answer = answer.status.0 / 256 == MORE_DATA
+
 -- it follows 61XX with GET RESPONSE for XX
 abbrev pub followed : Linked → Linked
-followed linked = if linked.answer.status.0 / 256 == MORE_DATA then fetched (linked.answer.status.0 % 256) linked.kept else linked
+followed linked = if is_followed linked.answer then fetched (linked.answer.status.0 % 256) linked.kept else linked
 
 -- what it has in the end
 abbrev pub received : Option ℕ → Linked → Linked
@@ -64,3 +68,27 @@ then_received expected (Passes apdu linked) = Passes apdu (λ answer. received e
 -- what comes of a command that the terminal sends, by what the link keeps
 unfoldable pub command_answer : Option Answer → Apdu → Course
 command_answer kept command = then_received command.expected (link_answer kept (tpdu_of command))
+
+-- ---- how many TPDUs that takes
+
+-- a count rose so often at least, or stands at its end
+abbrev pub RoseBy : ℕ → ℕ → ℕ → Type 0
+RoseBy times before now = min (before + times) (2 ^ 64 - 1) ≤ now
+
+-- the command's own, and GET RESPONSE after it where the answer to one whose data go to the card has data
+abbrev pub tpdus_by : Transfer → List ℕ → ℕ
+tpdus_by Incoming (byte ∷ more) = 2
+tpdus_by transfer bytes = 1
+
+-- how many TPDUs a command is sent by whose answer has these data
+abbrev pub tpdus_sent : Apdu → List ℕ → ℕ
+tpdus_sent command body = tpdus_by (transfer_of command.ins command.p1) body
+
+-- the same of a command that was read and that the link carries; none of any other
+abbrev pub tpdus_if_carried : Option Apdu → List ℕ → ℕ
+tpdus_if_carried None body = 0
+tpdus_if_carried (Some command) body = if is_carried command then tpdus_sent command body else 0
+
+-- by how many TPDUs these bytes go over the link, where their answer has these data
+abbrev pub tpdus_for : List ℕ → List ℕ → ℕ
+tpdus_for bytes body = tpdus_if_carried (command_in bytes) body

@@ -11,6 +11,11 @@ use Rattle.t0_link.specs.Tpdus.{transfer_in, p3_of, apdu_of}
 
 -- ---- what is answered and kept
 
+-- what is seen of a link: what it keeps, and how many TPDUs it was given
+pub record LinkState : Type 0 where
+  pub kept : Option Answer
+  pub tpdus : ℕ
+
 -- what the link answers, and what it keeps then: nothing, or data with a status, for GET RESPONSE to fetch
 pub record Linked : Type 0 where
   pub answer : Answer

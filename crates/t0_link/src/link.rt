@@ -1,8 +1,8 @@
 //! The link.
-ghost use Rattle.std.specs.Prelude.{◌≡◌, ◌↔◌, false, [], None, IsErrOf, IsTrue, IfSome, OnErr, length, ◌≤◌};
-ghost use Rattle.uicc_types.specs.Counts.{CountsFailure};
+ghost use Rattle.std.specs.Prelude.{◌≡◌, ◌↔◌, false, [], None, IsErrOf, IsTrue, IfSome, OnErr, if◌then◌else◌, length, ◌≤◌};
+ghost use Rattle.uicc_types.specs.Counts.{CountsFailure, raised};
 ghost use Rattle.apdu_form.specs.Model.{command_in};
-ghost use Rattle.t0_link.specs.Carrying.{carried, command_answer, cut_answer_to, is_carried, received};
+ghost use Rattle.t0_link.specs.Carrying.{RoseBy, carried, command_answer, cut_answer_to, is_carried, is_followed, received, tpdus_for, tpdus_sent};
 ghost use Rattle.t0_link.specs.Exchanging.{Exchanges, IsPassed};
 ghost use Rattle.t0_link.specs.Linking.{Passes, fetched, kept_back, link_answer};
 
@@ -14,36 +14,37 @@ use apdu_form::{Command, WrongLength, read_command};
 use std::marker::Model;
 use uicc_types::{Answer, StatusWord};
 
-/// What stands between a terminal and a card on a T=0 line. It keeps nothing, or the data and the status of one answer, for GET RESPONSE to fetch.
+/// What stands between a terminal and a card on a T=0 line. It keeps nothing, or the data and the status of one answer, for GET RESPONSE to
+/// fetch, and counts the TPDUs that it is given.
 #[derive(Debug, Drop)]
 pub struct Link {
     // An answer without data is one of which there is nothing to keep.
     kept: Answer,
+    tpdus: u64,
 }
 
 impl Model for Link {
-    ghost use Rattle.std.specs.Prelude.{Option};
-    ghost use Rattle.uicc_types.specs.declared.answers.Answer.{Answer};
-    ghost use Rattle.t0_link.specs.Linking.{kept_of};
+    ghost use Rattle.t0_link.specs.Linking.{LinkState, kept_of};
 
-    ghost Value = { Option Answer };
+    ghost Value = { LinkState };
 
-    ghost view = { λ link. kept_of link.kept };
+    ghost view = { λ link. record { kept = kept_of link.kept; tpdus = link.tpdus } };
 }
 
 impl Link {
-    /// A link that keeps nothing.
+    /// A link that keeps nothing, and was given no TPDU.
     pub fn new() -> Link
-        ensures { result ≡ None }
+        ensures { result ≡ record { kept = None; tpdus = 0 } }
     {
         Link {
             kept: Answer::new(),
+            tpdus: 0,
         }
     }
 
     /// Drops what is kept.
     pub fn clear(&mut self)
-        ensures { self.new ≡ None }
+        ensures { self.new ≡ record self.old { kept = None } }
     {
         self.kept.body.clear();
     }
@@ -56,14 +57,16 @@ impl Link {
         tpdu: &[u8],
         out: &mut Answer,
     ) -> Result<(), LinkFault>
-        ensures moves { Exchanges E.Endpoint card.old card.new (link_answer self.old tpdu.now) result
-            (record { answer = out.new; kept = self.new }) }
-        ensures off { (result ≡ Err LinkFault.NoPower) ↔ (IsPassed (link_answer self.old tpdu.now) ×
+        ensures moves { Exchanges E.Endpoint card.old card.new (link_answer self.old.kept tpdu.now) result
+            (record { answer = out.new; kept = self.new.kept }) }
+        ensures off { (result ≡ Err LinkFault.NoPower) ↔ (IsPassed (link_answer self.old.kept tpdu.now) ×
             (E.is_on card.old ≡ false)) }
         ensures count { CountsFailure (E.losses card.old) (E.losses card.new) (IsErrOf result LinkFault.PowerLost) }
         ensures empty { OnErr result (out.new.body ≡ []) }
-        ensures none_kept { OnErr result (self.new ≡ None) }
+        ensures none_kept { OnErr result (self.new.kept ≡ None) }
+        ensures tpdus { self.new.tpdus ≡ raised self.old.tpdus }
     {
+        self.count();
         match read_transfer(tpdu) {
             None => {
                 answer_status(StatusWord::WRONG_LENGTH, out);
@@ -81,6 +84,14 @@ impl Link {
         }
     }
 
+    // Counts a TPDU.
+    fn count(&mut self)
+        ensures kept { self.new.kept ≡ self.old.kept }
+        ensures tpdus { self.new.tpdus ≡ raised self.old.tpdus }
+    {
+        self.tpdus = self.tpdus.saturating_add(1);
+    }
+
     // Passes a command to the card, and keeps the data of its answer.
     fn pass_and_keep<E: Endpoint>(
         &mut self,
@@ -89,11 +100,12 @@ impl Link {
         out: &mut Answer,
     ) -> Result<(), LinkFault>
         ensures moves { Exchanges E.Endpoint card.old card.new (Passes apdu.now kept_back) result
-            (record { answer = out.new; kept = self.new }) }
+            (record { answer = out.new; kept = self.new.kept }) }
         ensures off { (result ≡ Err LinkFault.NoPower) ↔ (E.is_on card.old ≡ false) }
         ensures count { CountsFailure (E.losses card.old) (E.losses card.new) (IsErrOf result LinkFault.PowerLost) }
         ensures empty { OnErr result (out.new.body ≡ []) }
-        ensures none_kept { OnErr result (self.new ≡ None) }
+        ensures none_kept { OnErr result (self.new.kept ≡ None) }
+        ensures tpdus { self.new.tpdus ≡ self.old.tpdus }
     {
         let passed = card.transmit(apdu, &mut self.kept);
         match passed {
@@ -105,14 +117,14 @@ impl Link {
 
     // Answers GET RESPONSE, with so many of the data as are expected.
     fn respond(&mut self, p3: u8, expected: Option<u16>, out: &mut Answer)
-        ensures answer { out.new ≡ cut_answer_to expected (fetched p3 self.old).answer }
-        ensures kept { self.new ≡ (fetched p3 self.old).kept }
+        ensures answer { out.new ≡ cut_answer_to expected (fetched p3 self.old.kept).answer }
+        ensures kept { self.new ≡ record self.old { kept = (fetched p3 self.old.kept).kept } }
     {
         fetch(p3, expected, &mut self.kept, out);
     }
 
-    /// Sends a command as a terminal does: as its TPDU, then GET RESPONSE for its data, which are cut to Le. The faults are those of
-    /// `exchange`.
+    /// Sends a command as a terminal does: as its TPDU, then GET RESPONSE for its data, which are cut to Le. Each is counted. The faults
+    /// are those of `exchange`.
     pub fn command<E: Endpoint>(
         &mut self,
         card: &mut E,
@@ -121,12 +133,13 @@ impl Link {
     ) -> Result<(), LinkFault>
         requires { IsTrue (carried apdu.now) }
         ensures moves { IfSome (command_in apdu.now) (λ command.
-            Exchanges E.Endpoint card.old card.new (command_answer self.old command) result
-            (record { answer = out.new; kept = self.new })) }
+            Exchanges E.Endpoint card.old card.new (command_answer self.old.kept command) result
+            (record { answer = out.new; kept = self.new.kept })) }
         ensures off { (result ≡ Err LinkFault.NoPower) ↔ (E.is_on card.old ≡ false) }
         ensures count { CountsFailure (E.losses card.old) (E.losses card.new) (IsErrOf result LinkFault.PowerLost) }
         ensures empty { OnErr result (out.new.body ≡ []) }
-        ensures none_kept { OnErr result (self.new ≡ None) }
+        ensures none_kept { OnErr result (self.new.kept ≡ None) }
+        ensures tpdus { RoseBy (tpdus_for apdu.now out.new.body) self.old.tpdus self.new.tpdus }
     {
         match read_command(apdu) {
             Ok(command) => self.send(card, &command, out),
@@ -143,12 +156,13 @@ impl Link {
     ) -> Result<(), LinkFault>
         requires carried { IsTrue (is_carried command.now) }
         requires short { length command.now.body ≤ 255 }
-        ensures moves { Exchanges E.Endpoint card.old card.new (command_answer self.old command.now) result
-            (record { answer = out.new; kept = self.new }) }
+        ensures moves { Exchanges E.Endpoint card.old card.new (command_answer self.old.kept command.now) result
+            (record { answer = out.new; kept = self.new.kept }) }
         ensures off { (result ≡ Err LinkFault.NoPower) ↔ (E.is_on card.old ≡ false) }
         ensures count { CountsFailure (E.losses card.old) (E.losses card.new) (IsErrOf result LinkFault.PowerLost) }
         ensures empty { OnErr result (out.new.body ≡ []) }
-        ensures none_kept { OnErr result (self.new ≡ None) }
+        ensures none_kept { OnErr result (self.new.kept ≡ None) }
+        ensures tpdus { RoseBy (tpdus_sent command.now out.new.body) self.old.tpdus self.new.tpdus }
     {
         let tpdu = tpdu_of(command);
         match self.exchange(card, tpdu.as_slice(), out) {
@@ -160,12 +174,14 @@ impl Link {
         }
     }
 
-    // Makes what a terminal has in the end of the link's answer.
+    // Makes what a terminal has in the end of the link's answer. GET RESPONSE is a TPDU more.
     fn receive(&mut self, expected: Option<u16>, out: &mut Answer)
-        ensures answer { out.new ≡ (received expected (record { answer = out.old; kept = self.old })).answer }
-        ensures kept { self.new ≡ (received expected (record { answer = out.old; kept = self.old })).kept }
+        ensures answer { out.new ≡ (received expected (record { answer = out.old; kept = self.old.kept })).answer }
+        ensures kept { self.new.kept ≡ (received expected (record { answer = out.old; kept = self.old.kept })).kept }
+        ensures tpdus { self.new.tpdus ≡ (if is_followed out.old then raised self.old.tpdus else self.old.tpdus) }
     {
         if out.status.0 / 256 == u16::from(MORE_DATA) {
+            self.count();
             self.respond((out.status.0 % 256) as u8, expected, out);
         } else {
             cut(expected, out);

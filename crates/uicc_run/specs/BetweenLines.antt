@@ -62,7 +62,7 @@ IsEffect line (effect.Takes move) = (may_follow line ≡ true) × (deeds_of line
 IsEffect line (effect.Transfers tpdu) = (may_follow line ≡ true) × (deeds_of line ≡ Transfers tpdu.now ∷ []) × (length tpdu.now ≤ LONGEST_COMMAND)
 IsEffect line effect.OutOfPlace = may_follow line ≡ false
 
--- its commands come to the card as they are, or over a link that keeps nothing yet
+-- its commands come to the card as they are, or over a link that keeps nothing yet and was given no TPDU
 abbrev pub IsCarrierBy : Transport → Carrier → Type 0
 IsCarrierBy transport.Direct made = made ≡ carrier.Direct
-IsCarrierBy transport.T0 made = made ≡ carrier.Link None
+IsCarrierBy transport.T0 made = made ≡ carrier.Link (record { kept = None; tpdus = 0 })

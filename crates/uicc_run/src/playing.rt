@@ -99,8 +99,8 @@ fn play_line<S: Store, B: Applet, R: Source, W: Sink>(
     trace: &mut W,
 ) -> Result<(), PlayEnd>
     ensures played { (given : Given) (first : CardView)
-        → IsPlaying given first script.old (R.left source.old) link.old (moment_at card.old (W.taken trace.old))
-        → GivesPlayed given first script.new (R.left source.new) link.new
+        → IsPlaying given first script.old (R.left source.old) link.old.kept (moment_at card.old (W.taken trace.old))
+        → GivesPlayed given first script.new (R.left source.new) link.new.kept
         (moment_at card.new (W.taken trace.new)) result }
     ensures within { (text : List ℕ) → IsWithin text (reading script.old) (R.left source.old)
         → IsWithin text (reading script.new) (R.left source.new) }
@@ -136,7 +136,7 @@ fn play_line<S: Store, B: Applet, R: Source, W: Sink>(
 
 /// Drops what the link keeps, where a step goes past it to the card.
 fn drop_kept(link: &mut Link, step: Move<'_>)
-    ensures { link.new ≡ kept_behind (step_of step.entry) link.old }
+    ensures { link.new.kept ≡ kept_behind (step_of step.entry) link.old.kept }
 {
     match step {
         Move::Send(_) | Move::Reset => link.clear(),

@@ -1,4 +1,5 @@
-use Rattle.std.proofs.Common.{◌∷◌, refl}
+use Rattle.std.proofs.Common.{◌∷◌, inl, inr, refl}
+use Rattle.std.proofs.lemmas.Result.{on_ok_weaker}
 use Rattle.phone_runs.proofs.RunsLemmas.{plans_line}
 use Rattle.phone_runs.proofs.ServeLemmas.{rest_of}
 use Rattle.phone_runs.specs.Logs.{Plans}
@@ -17,3 +18,9 @@ returns-in-Plans-clause-plays g c = λ given log at.
 
 pub returns-in-Hears-clause-plays : goal.returns-in-Hears-clause-plays
 returns-in-Hears-clause-plays g c = λ given log at. rw c.in-Hears.is (c.hear_line.ensures.plays given log at)
+
+pub returns-in-Plans-clause-carried : goal.returns-in-Plans-clause-carried
+returns-in-Plans-clause-carried g c = inl (refl, refl)
+
+pub returns-in-Hears-clause-carried : goal.returns-in-Hears-clause-carried
+returns-in-Hears-clause-carried g c = on_ok_weaker c.hear_line.result inr c.hear_line.ensures.carried

@@ -2,6 +2,7 @@ use Rattle.std.proofs.Common.{[], ap, ◌∙◌}
 use Rattle.std.proofs.lemmas.Result.{on_ok_weaker}
 use Rattle.terminal_side.specs.Kept.{Kept}
 use Rattle.terminal_side.proofs.KeptLemmas.{clock_kept}
+use Rattle.phone_runs.proofs.CarriedLemmas.{all_carried, started_none}
 use Rattle.phone_runs.proofs.RunsLemmas.{begins_empty}
 use Rattle.phone_runs.proofs.playing.start_phone.Goals as goal
 
@@ -12,3 +13,7 @@ returns-clause-starts g c = λ given begins.
 pub returns-clause-clock : goal.returns-clause-clock
 returns-clause-clock g c =
     on_ok_weaker c.settle.result (λ same. same ∙ ap (λ (k : Kept). k.known.clock) (c.start.ensures.first c.requires.new) ∙ clock_kept []) c.settle.ensures.clock
+
+pub returns-clause-carried : goal.returns-clause-carried
+returns-clause-carried g c =
+    on_ok_weaker c.settle.result (all_carried c.start.new.self c.settle.new.phone c.args.carrier.now c.settle.new.carrier (started_none c.start.new.self (c.start.ensures.first c.requires.new))) c.settle.ensures.carried

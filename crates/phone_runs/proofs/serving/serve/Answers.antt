@@ -3,6 +3,7 @@ use Rattle.std.proofs.Common.{rules}
 use Rattle.run_steps.proofs.SteppingLemmas.{holds_seen}
 use Rattle.run_steps.specs.Ends.{moment_at}
 use Rattle.run_steps.proofs.TakesFrontLemmas.{tells_front, tells_whole}
+use Rattle.phone_runs.proofs.CarriedLemmas.{note_carried, reset_carried, same_carried, sent_carried}
 use Rattle.phone_runs.proofs.ServeLemmas.{asks_note, asks_reset, asks_send, none_further, none_rests, none_same, note_ends, note_further, note_more, reset_ends, reset_further, reset_more, sent_ends, sent_further, sent_more}
 use Rattle.phone_runs.proofs.serving.serve.Goals as goal
 
@@ -66,3 +67,22 @@ returns-in-Ok-write_note-clause-tallies g c = record { kept = search rules; sink
 
 pub returns-in-Err-write_note-clause-tallies : goal.returns-in-Err-write_note-clause-tallies
 returns-in-Err-write_note-clause-tallies g c = record { kept = search rules; sink = search rules; tells = tells_front _ _ _ c.in-Err-write_note.ensures.err }
+
+pub returns-in-Nothing-clause-carried : goal.returns-in-Nothing-clause-carried
+returns-in-Nothing-clause-carried g c =
+    same_carried c.args.phone.now c.next_into.new.self c.args.carrier.now (none_same c.args.phone.now c.next_into.new.self (record { item = c.in-Nothing.ensures.item; after = c.in-Nothing.ensures.after }) c.requires.served)
+
+pub returns-in-Ok-clause-carried : goal.returns-in-Ok-clause-carried
+returns-in-Ok-clause-carried g c =
+    sent_carried c.args.phone.now c.next_into.new.self c.hear.new.phone _ c.as_slice-apdu.result.now c.in-Ok.reply c.exchange.new.answer c.args.carrier.now c.exchange.new.carrier
+    (record { item = c.next_into.ensures.item; after = c.next_into.ensures.after }) (asks_send c.next_into.result c.next_into.new.apdu c.as_slice-apdu.result.now c.next_into.new.note c.in-Send.is c.as_slice-apdu.ensures.value) c.hear.ensures c.requires.served c.in-Ok.ensures.carries
+
+pub returns-in-Ok-restart-clause-carried : goal.returns-in-Ok-restart-clause-carried
+returns-in-Ok-restart-clause-carried g c =
+    reset_carried c.args.phone.now c.next_into.new.self c.begin_anew.new.phone _ c.in-Ok-restart.restarted c.args.carrier.now
+    (record { item = c.next_into.ensures.item; after = c.next_into.ensures.after }) (asks_reset c.next_into.result c.next_into.new.apdu c.next_into.new.note c.in-Reset.is) c.begin_anew.ensures c.requires.served
+
+pub returns-in-Ok-write_note-clause-carried : goal.returns-in-Ok-write_note-clause-carried
+returns-in-Ok-write_note-clause-carried g c =
+    note_carried c.args.phone.now c.next_into.new.self _ c.next_into.new.note c.args.carrier.now
+    (record { item = c.next_into.ensures.item; after = c.next_into.ensures.after }) (asks_note c.next_into.result c.next_into.new.apdu c.next_into.new.note c.in-Show.is) c.requires.served

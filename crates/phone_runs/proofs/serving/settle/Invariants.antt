@@ -4,7 +4,7 @@ use Rattle.run_steps.specs.Ends.{moment_at}
 use Rattle.phone_runs.specs.Logs.{Event, lines_back}
 use Rattle.phone_runs.specs.Runs.{Beginning}
 use Rattle.phone_runs.specs.Settling.{IsAt, Reaches}
-use Rattle.phone_runs.specs.Serving.{IsPhoneServed, work_at}
+use Rattle.phone_runs.specs.Serving.{CarriesMore, IsPhoneServed, work_at}
 use Rattle.phone_runs.proofs.serving.settle.Given as goal
 
 abbrev pub invariant-loop-end : goal.invariant-loop-end
@@ -13,6 +13,7 @@ invariant-loop-end g l = record {
       → Reaches given (lines_back log) l.phone (moment_at l.card (g.W.Sink.taken l.trace));
   served : IsPhoneServed l.phone;
   clock : l.phone.known.clock ≡ l.initial.phone.known.clock;
+  carried : CarriesMore l.initial.phone l.phone l.initial.carrier l.carrier;
   kept : l.initial.card.parts.meter.faults ≤ l.card.parts.meter.faults;
   sink_kept : g.W.Sink.faults l.initial.trace ≤ g.W.Sink.faults l.trace;
   tells : is_some (g.W.Sink.taken l.trace) ≡ is_some (g.W.Sink.taken l.initial.trace);

@@ -23,29 +23,29 @@ returns-in-OutOfPlace-clause-played g c = λ given first playing.
 
 pub returns-in-Ok-take_step-clause-played : goal.returns-in-Ok-take_step-clause-played
 returns-in-Ok-take_step-clause-played g c = λ given first playing.
-    plays_further given first _ _ _ _ c.read_behind.new.line (λ found follows. c.in-Ok.ensures.gives (may_stand given.is_served) given.text found follows) c.args.link.now c.drop_kept.new.link _ _ (Takes (step_of c.in-Takes.step)) c.runs_are_counted.ensures.join c.plans_are_set_in_order.ensures
+    plays_further given first _ _ _ _ c.read_behind.new.line (λ found follows. c.in-Ok.ensures.gives (may_stand given.is_served) given.text found follows) c.args.link.now.kept c.drop_kept.new.link.kept _ _ (Takes (step_of c.in-Takes.step)) c.runs_are_counted.ensures.join c.plans_are_set_in_order.ensures
     c.in-Takes.ensures.0 c.in-Takes.ensures.1
-    (λ old seen. step_does (step_of c.in-Takes.step) c.args.link.now c.drop_kept.new.link old _ _ c.drop_kept.ensures (c.in-Ok-take_step.ensures.gives old seen)) playing
+    (λ old seen. step_does (step_of c.in-Takes.step) c.args.link.now.kept c.drop_kept.new.link.kept old _ _ c.drop_kept.ensures (c.in-Ok-take_step.ensures.gives old seen)) playing
 
 pub returns-in-Err-SinkFailed-clause-played : goal.returns-in-Err-SinkFailed-clause-played
 returns-in-Err-SinkFailed-clause-played g c = λ given first playing.
     let gives = rw c.in-Err-SinkFailed.field-0-is at c.in-Err-SinkFailed.ensures.gives in
-    breaks_in given first _ _ _ (g.R.Source.left c.read_behind.new.source) c.read_behind.new.line (λ found follows. c.in-Ok.ensures.gives (may_stand given.is_served) given.text found follows) c.args.link.now c.drop_kept.new.link _ _ (Takes (step_of c.in-Takes.step)) c.runs_are_counted.ensures.join
-    c.in-Takes.ensures.1 (λ old seen. step_breaks (step_of c.in-Takes.step) c.args.link.now c.drop_kept.new.link old _ _ (gives old seen)) playing
+    breaks_in given first _ _ _ (g.R.Source.left c.read_behind.new.source) c.read_behind.new.line (λ found follows. c.in-Ok.ensures.gives (may_stand given.is_served) given.text found follows) c.args.link.now.kept c.drop_kept.new.link.kept _ _ (Takes (step_of c.in-Takes.step)) c.runs_are_counted.ensures.join
+    c.in-Takes.ensures.1 (λ old seen. step_breaks (step_of c.in-Takes.step) c.args.link.now.kept c.drop_kept.new.link.kept old _ _ (gives old seen)) playing
 
 pub returns-in-Err-ResetFailed-clause-played : goal.returns-in-Err-ResetFailed-clause-played
 returns-in-Err-ResetFailed-clause-played g c = λ given first playing.
     let gives = rw c.in-Err-ResetFailed.field-0-is at c.in-Err-ResetFailed.ensures.gives in
-    fails_in given first _ _ _ (g.R.Source.left c.read_behind.new.source) c.read_behind.new.line (λ found follows. c.in-Ok.ensures.gives (may_stand given.is_served) given.text found follows) c.args.link.now _ _ (step_of c.in-Takes.step) c.runs_are_counted.ensures.join c.plans_are_set_in_order.ensures
+    fails_in given first _ _ _ (g.R.Source.left c.read_behind.new.source) c.read_behind.new.line (λ found follows. c.in-Ok.ensures.gives (may_stand given.is_served) given.text found follows) c.args.link.now.kept _ _ (step_of c.in-Takes.step) c.runs_are_counted.ensures.join c.plans_are_set_in_order.ensures
     c.in-Takes.ensures.1 gives playing
 
 pub returns-in-Ok-take_tpdu-clause-played : goal.returns-in-Ok-take_tpdu-clause-played
 returns-in-Ok-take_tpdu-clause-played g c = λ given first playing.
-    plays_further given first _ _ _ _ c.read_behind.new.line (λ found follows. c.in-Ok.ensures.gives (may_stand given.is_served) given.text found follows) c.args.link.now c.take_tpdu.new.link _ _ (Transfers c.in-Transfers.tpdu.now) c.runs_are_counted.ensures.join c.plans_are_set_in_order.ensures
+    plays_further given first _ _ _ _ c.read_behind.new.line (λ found follows. c.in-Ok.ensures.gives (may_stand given.is_served) given.text found follows) c.args.link.now.kept c.take_tpdu.new.link.kept _ _ (Transfers c.in-Transfers.tpdu.now) c.runs_are_counted.ensures.join c.plans_are_set_in_order.ensures
     c.in-Transfers.ensures.0 c.in-Transfers.ensures.1
-    (λ old seen. tpdu_does c.in-Transfers.tpdu.now c.args.link.now c.take_tpdu.new.link old _ _ (c.in-Ok-take_tpdu.ensures.gives old seen)) playing
+    (λ old seen. tpdu_does c.in-Transfers.tpdu.now c.args.link.now.kept c.take_tpdu.new.link.kept old _ _ (c.in-Ok-take_tpdu.ensures.gives old seen)) playing
 
 pub returns-in-Err-take_tpdu-clause-played : goal.returns-in-Err-take_tpdu-clause-played
 returns-in-Err-take_tpdu-clause-played g c = λ given first playing.
-    breaks_in given first _ _ _ (g.R.Source.left c.read_behind.new.source) c.read_behind.new.line (λ found follows. c.in-Ok.ensures.gives (may_stand given.is_served) given.text found follows) c.args.link.now c.take_tpdu.new.link _ _ (Transfers c.in-Transfers.tpdu.now) c.runs_are_counted.ensures.join
-    c.in-Transfers.ensures.1 (λ old seen. tpdu_breaks c.in-Transfers.tpdu.now c.args.link.now c.take_tpdu.new.link old _ _ (c.in-Err-take_tpdu.ensures.gives old seen)) playing
+    breaks_in given first _ _ _ (g.R.Source.left c.read_behind.new.source) c.read_behind.new.line (λ found follows. c.in-Ok.ensures.gives (may_stand given.is_served) given.text found follows) c.args.link.now.kept c.take_tpdu.new.link.kept _ _ (Transfers c.in-Transfers.tpdu.now) c.runs_are_counted.ensures.join
+    c.in-Transfers.ensures.1 (λ old seen. tpdu_breaks c.in-Transfers.tpdu.now c.args.link.now.kept c.take_tpdu.new.link.kept old _ _ (c.in-Err-take_tpdu.ensures.gives old seen)) playing

@@ -1,6 +1,7 @@
 use Rattle.std.proofs.Common.{Option, ap, arith, sym, subst, ◌∙◌}
 use Rattle.std.proofs.lemmas.Bool.{false≢true}
 use Rattle.uicc_types.specs.declared.answers.Answer.{Answer}
+use Rattle.t0_link.specs.Linking.{LinkState}
 use Rattle.run_steps.specs.Ends.{moment_at}
 use Rattle.uicc_run.specs.Opening.{is_handset}
 use Rattle.uicc_run.specs.BetweenLines.{IsPlaying}
@@ -10,7 +11,7 @@ use Rattle.uicc_run.proofs.playing.play_lines.Goals as goal
 
 pub returns-in-Err-clause-played : goal.returns-in-Err-clause-played
 returns-in-Err-clause-played g c = λ given first unserved playing.
-    let begun = subst (λ (kept : Option Answer). IsPlaying given first c.args.script.now (g.R.Source.left c.args.source.now) kept (moment_at c.args.card.now (g.W.Sink.taken c.args.trace.now))) (sym c.new-link.ensures) playing in
+    let begun = subst (λ (kept : Option Answer). IsPlaying given first c.args.script.now (g.R.Source.left c.args.source.now) kept (moment_at c.args.card.now (g.W.Sink.taken c.args.trace.now))) (sym (ap (λ (l : LinkState). l.kept) c.new-link.ensures)) playing in
     c.in-Err.ensures.played given first (c.loop-script.invariant.playing given first unserved begun)
 
 pub loop-script-preserved-in_default : goal.loop-script-preserved-in_default

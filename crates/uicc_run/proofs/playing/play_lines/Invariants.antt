@@ -13,8 +13,8 @@ use Rattle.uicc_run.proofs.playing.play_lines.Given as goal
 
 abbrev pub invariant-loop-script : goal.invariant-loop-script
 invariant-loop-script g l = record {
-  playing : (given : Given) (first : CardView) → is_handset l.listener ≡ false → IsPlaying given first l.initial.script (g.R.Source.left l.initial.source) l.initial.link (moment_at l.initial.card (g.W.Sink.taken l.initial.trace))
-      → IsPlaying given first l.script (g.R.Source.left l.source) l.link (moment_at l.card (g.W.Sink.taken l.trace));
+  playing : (given : Given) (first : CardView) → is_handset l.listener ≡ false → IsPlaying given first l.initial.script (g.R.Source.left l.initial.source) l.initial.link.kept (moment_at l.initial.card (g.W.Sink.taken l.initial.trace))
+      → IsPlaying given first l.script (g.R.Source.left l.source) l.link.kept (moment_at l.card (g.W.Sink.taken l.trace));
   serving : (text : List ℕ) (opening : List ScriptLine) (given : Beginning) → is_handset l.listener ≡ true → IsServing text opening given l.initial.script (g.R.Source.left l.initial.source) l.initial.phone (moment_at l.initial.card (g.W.Sink.taken l.initial.trace))
       → IsServing text opening given l.script (g.R.Source.left l.source) l.phone (moment_at l.card (g.W.Sink.taken l.trace));
   between : is_handset l.listener ≡ true → IsBetweenLines l.script l.phone;
