@@ -22,7 +22,7 @@ pub const MOST_RECEIVED: usize = 237;
 pub const RING: usize = 7096;
 
 /// Whether a channel is open, and its link.
-#[derive(Clone, Copy, Debug, PartialEq, Eq)]
+#[derive(Clone, Copy, PartialEq, Eq)]
 pub enum Link {
     Closed,
     Up,

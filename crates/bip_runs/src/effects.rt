@@ -7,7 +7,7 @@ use script_form::ScriptLine;
 use uicc_types::Octets;
 
 /// What happens to the terminal.
-#[derive(Clone, Copy, Debug)]
+#[derive(Clone, Copy)]
 pub enum Happening<'a> {
     /// The card gives this proactive command.
     Command(&'a Octets),
@@ -18,7 +18,7 @@ pub enum Happening<'a> {
 }
 
 /// What a line of the script is for the terminal.
-#[derive(Clone, Copy, Debug)]
+#[derive(Clone, Copy)]
 pub enum Effect<'a> {
     /// It does nothing.
     Nothing,
@@ -31,7 +31,7 @@ pub enum Effect<'a> {
 }
 
 /// Where a run stands in its script: up to `start`, or after it.
-#[derive(Clone, Copy, Debug, PartialEq, Eq)]
+#[derive(Clone, Copy, PartialEq, Eq)]
 pub enum Place {
     Before,
     Behind,

@@ -20,7 +20,7 @@ use file_tree::Channels;
 use uicc_types::StatusWord;
 
 /// A command by its class, without the channel; one that is basic is taken on the basic channel alone.
-#[derive(Clone, Copy, Debug)]
+#[derive(Clone, Copy)]
 pub struct TableRow {
     pub class: u8,
     pub instruction: Instruction,

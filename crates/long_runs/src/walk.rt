@@ -11,7 +11,7 @@ use uicc_types::{ByteList, Full};
 pub const HEAD: usize = 6;
 
 /// How far a walk has come.
-#[derive(Debug, Drop)]
+#[derive(Drop)]
 pub struct Walk {
     /// The first bytes of the line that it is in.
     head: ByteList<HEAD>,

@@ -8,7 +8,7 @@ ghost use Rattle.pin_rules.specs.Trials.{IsHeld};
 use card_state::{Loaded, PinSlot};
 
 /// A PIN, and the slot that holds it.
-#[derive(Clone, Copy, Debug)]
+#[derive(Clone, Copy)]
 pub struct Held {
     pub slot: u8,
     pub pin: PinSlot,

@@ -18,7 +18,7 @@ use uicc_types::keys::{ADM_1, PIN_1, PIN_2};
 use uicc_types::{Pin8, StatusWord};
 
 /// What a PIN command does where nothing refuses it.
-#[derive(Clone, Copy, Debug)]
+#[derive(Clone, Copy)]
 pub enum Trial {
     /// It tells how many tries are left.
     Tell(u8),

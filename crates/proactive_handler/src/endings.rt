@@ -5,7 +5,7 @@ ghost use Rattle.proactive_handler.specs.Acts.{stimulus_of};
 use applet_trait::Stimulus;
 
 /// What an applet is told of its act.
-#[derive(Clone, Copy, Debug)]
+#[derive(Clone, Copy)]
 pub(crate) enum Reply {
     /// It was carried out.
     Went,
@@ -28,7 +28,7 @@ impl Reply {
 }
 
 /// What comes after an act.
-#[derive(Clone, Copy, Debug)]
+#[derive(Clone, Copy)]
 pub(crate) enum Next {
     /// The run goes on: the applet is told this.
     Told(Reply),
@@ -39,7 +39,7 @@ pub(crate) enum Next {
 }
 
 /// What a run ended with.
-#[derive(Clone, Copy, Debug)]
+#[derive(Clone, Copy)]
 pub struct RunEnd {
     /// Whether the last act's command goes to the handset: then the applet waits for the answer, and otherwise it is idle.
     pub is_sent: bool,

@@ -5,7 +5,7 @@ use terminal_profile::Profile;
 use uicc_types::Shelf;
 
 /// The shelf of the applet that runs, the profile that the handset sent, if it sent one, and whether call control began the run.
-#[derive(Clone, Copy, Debug)]
+#[derive(Clone, Copy)]
 pub struct Setting {
     pub shelf: Shelf,
     pub profile: Option<Profile>,

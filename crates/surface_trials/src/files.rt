@@ -114,14 +114,28 @@ fn a_blank_card(rt: HostRuntime) -> Result<(), Fail> {
     let section = Section::new(rt.alloc())?;
     let mut store = Journal::new(BenchEeprom::new(rt.alloc(), 65_536)?);
     assert!(rt; is_blank(&mut store, &section));
-    let mut channels = Channels::new();
-    assert!(rt; channels.is_open(0));
-    let opened: Option<u8> = channels.open(0);
-    assert_eq!(rt; opened, Some(1));
-    let Selection { df, ef, pointer } = *channels.selection(0);
-    let (df, ef, pointer): (u8, Option<u8>, Option<u8>) = (df, ef, pointer);
-    assert_eq!(rt; (df, ef, pointer), (0, None, None));
-    let closed: bool = channels.close(1);
-    assert!(rt; closed);
     Ok(())
+}
+
+/// Opens a channel from the basic one, and answers its number.
+fn opened(channels: &mut Channels) -> Option<u8>
+    requires { is_open channels.old 0 ≡ true }
+{
+    channels.open(0)
+}
+
+fn is_channel_open(channels: &Channels, number: u8) -> bool {
+    channels.is_open(number)
+}
+
+fn closed(channels: &mut Channels) -> bool {
+    channels.close(1)
+}
+
+/// What is selected on the basic channel.
+fn selected(channels: &mut Channels) -> (u8, Option<u8>, Option<u8>)
+    requires { is_open channels.old 0 ≡ true }
+{
+    let Selection { df, ef, pointer } = *channels.selection(0);
+    (df, ef, pointer)
 }

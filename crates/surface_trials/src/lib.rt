@@ -1,14 +1,12 @@
 //! Trials of what neither a script nor a table can show, and each public call of the card, the handset and what is below them, made once
 //! with the types that its callers write: devices, stores, streams, applets and ends of a link of one's own too. There is no code beside
-//! the tests.
+//! that of tests.
 #![tactic(auto)]
 
 #[cfg(test)]
-mod applets;
+mod apdus;
 #[cfg(test)]
 mod cards;
-#[cfg(test)]
-mod commands;
 #[cfg(test)]
 mod files;
 #[cfg(test)]
@@ -16,9 +14,13 @@ mod handsets;
 #[cfg(test)]
 mod layouts;
 #[cfg(test)]
+mod lines;
+#[cfg(test)]
 mod links;
 #[cfg(test)]
 mod memories;
+#[cfg(test)]
+mod messages;
 #[cfg(test)]
 mod own;
 #[cfg(test)]

@@ -5,8 +5,7 @@ use byte_streams::{Failed, Sink, Source};
 use eeprom_model::{Eeprom, EepromFault};
 use std::marker::Model;
 use store_form::{Store, StoreFault, Writes};
-use t0_link::{Endpoint, LinkFault};
-use uicc_types::{Answer, Kept, Plan, StatusWord};
+use uicc_types::{Kept, Plan};
 
 /// Another one, of whatever it is.
 #[derive(Drop)]
@@ -136,27 +135,5 @@ impl<A: Applet> Applet for Own<A> {
 
     fn step(&mut self, stimulus: &Stimulus) -> Act {
         self.inner.step(stimulus)
-    }
-}
-
-/// An end of a link that answers each command with 9000.
-#[derive(Drop)]
-pub struct OwnEnd;
-
-impl Endpoint for OwnEnd {
-    ghost use Rattle.std.specs.Prelude.{true};
-
-    ghost is_on = { λ end. true };
-
-    ghost losses = { λ end. 0 };
-
-    ghost step = { λ old apdu answer new. Unit {0} };
-
-    ghost lost = { λ old apdu new. ⊥ };
-
-    fn transmit(&mut self, apdu: &[u8], out: &mut Answer) -> Result<(), LinkFault> {
-        out.body.clear();
-        out.status = StatusWord(if apdu.is_empty() { 0x6700 } else { 0x9000 });
-        Ok(())
     }
 }

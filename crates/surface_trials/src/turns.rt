@@ -1,11 +1,12 @@
-//! An applet in a place, known by its trait alone.
+//! An applet in a place, known by its trait alone, and so one of one's own too.
 ghost use Rattle.std.specs.Prelude.{◌≡◌, IfSome};
 ghost use Rattle.applet_trait.specs.Laws.{IsWritableAct};
 ghost use Rattle.applet_trait.specs.Minds.{fresh};
 ghost use Rattle.applet_trait.specs.Turns.{act};
 
+use crate::own::Own;
 use applet_trait::{Act, Applet, Stimulus};
-use boxed_applets::boxed_applet;
+use boxed_applets::Greeter;
 use std::rt::HostRuntime;
 use std::test::Fail;
 use toolkit_commands::Proactive;
@@ -37,7 +38,9 @@ fn an_applet_in_a_place_acts_as_its_kind(rt: HostRuntime) -> Result<(), Fail> {
         code: PROFILE_DOWNLOAD,
         body: Octets::new(),
     };
-    let mut place = Some(boxed_applet!(rt.alloc(), 0));
+    let mut place = Some(Own {
+        inner: Greeter::new(),
+    });
     match turn_of(&mut place, &Kept::new(), &event) {
         Some((kind, Act::Send(Proactive::DisplayText { text }))) => {
             assert_eq!(rt; kind, 1);
@@ -45,7 +48,7 @@ fn an_applet_in_a_place_acts_as_its_kind(rt: HostRuntime) -> Result<(), Fail> {
         }
         _ => assert!(rt; false),
     }
-    let mut empty: Option<Box<dyn Applet>> = None;
+    let mut empty: Option<Own<Greeter>> = None;
     assert!(rt; turn_of(&mut empty, &Kept::new(), &event).is_none());
     Ok(())
 }

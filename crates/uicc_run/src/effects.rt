@@ -6,7 +6,7 @@ use script_form::ScriptLine;
 use uicc_types::Plan;
 
 /// What a line after `start` is for the card.
-#[derive(Clone, Copy, Debug)]
+#[derive(Clone, Copy)]
 pub enum Effect<'a> {
     /// It does nothing.
     Nothing,

@@ -6,7 +6,7 @@ use std::io::{Error, ErrorKind};
 use std::rt::Files;
 
 /// Whether the card is made anew or is the one that the file holds.
-#[derive(Clone, Copy, Debug, PartialEq, Eq)]
+#[derive(Clone, Copy, PartialEq, Eq)]
 pub enum Use {
     Made,
     Opened,

@@ -8,7 +8,7 @@ use run_steps::Carrier;
 use t0_link::Link;
 
 /// To whom the lines after `start` go.
-#[derive(Clone, Copy, Debug, PartialEq, Eq)]
+#[derive(Clone, Copy, PartialEq, Eq)]
 pub enum Listener {
     /// To the card itself.
     Card,

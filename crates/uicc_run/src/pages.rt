@@ -8,7 +8,7 @@ ghost use Rattle.uicc_run.specs.OverDevices.{IsPageWord};
 use byte_streams::{Failed, Sink};
 
 /// A page that the program prints in place of a run.
-#[derive(Clone, Copy, Debug, PartialEq, Eq)]
+#[derive(Clone, Copy, PartialEq, Eq)]
 pub enum Page {
     Help,
     Version,
