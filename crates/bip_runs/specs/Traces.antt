@@ -29,7 +29,7 @@ lines_of (Cuts number) channels = event_lines (cut number channels).event
 abbrev pub text_of : List TraceLine → List ℕ
 text_of lines = flat_map trace_text lines
 
--- the text that is shown of all that happened, the newest first
+-- the text that is shown of all that happened, whose newest thing comes first here and last in the text
 abbrev pub shown : List Occurrence → List ℕ
 shown [] = []
 shown (newest ∷ earlier) = shown earlier ++ text_of (lines_of newest (channels_after earlier))

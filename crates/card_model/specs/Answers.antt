@@ -111,7 +111,7 @@ on_toolkit card outcome = record {
 
 -- ---- the commands
 
--- what a command is tried on: a card, the channel of the command, and the command
+-- what is selected on this channel; on one that isn't open, what is selected at a start
 abbrev pub selection_on : CardState → ℕ → Selection
 selection_on card channel = unwrap_or (selected_on card.channels channel) AT_START
 

@@ -18,7 +18,7 @@ use Rattle.card_model.specs.Answers.{answer, passed}
 
 -- ---- what a fault leaves
 
--- the box of an applet that is registered no more was dropped
+-- the box of an applet that is registered no more is dropped; any other stays
 abbrev pub box_left : List Registration → List Registration → ℕ → Option AppletState → Option AppletState
 box_left before after shelf box = if is_some (row_on before shelf) && is_none (row_on after shelf) then None else box
 
@@ -124,7 +124,7 @@ plans_joined waiting plan = record {
   read_fail = option_or plan.read_fail waiting.read_fail;
 }
 
--- a plan that waits is set before the next command or reset
+-- a plan that waits is set before the next command or reset, if it names a fault
 abbrev pub due : Plan → List Plan
 due waiting = if names_fault waiting then waiting ∷ [] else []
 

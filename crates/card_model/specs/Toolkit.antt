@@ -60,7 +60,8 @@ profile_taken card apdu =
 abbrev pub is_length_of : List ℕ → ℕ → Bool
 is_length_of bytes expected = expected == 256 || expected == length bytes
 
--- the bytes of the command that is to be fetched
+-- FETCH: what it comes to, the bytes of the command that is to be fetched. It is refused where P1 and P2 are not 00 (6A86), with data or without
+-- Le (6700), where no command is to be fetched (6985), and where Le is another length (6CXX).
 unfoldable pub command_fetched : CardState → Apdu → Result ToolkitOutcome StatusWord
 command_fetched card apdu =
     needs (has_no_parameters apdu) WRONG_PARAMETERS (
@@ -71,7 +72,8 @@ command_fetched card apdu =
 
 -- ---- TERMINAL RESPONSE (11.2.4)
 
--- it has to answer the command that was fetched
+-- TERMINAL RESPONSE: what it comes to. It is refused where P1 and P2 are not 00 (6A86), without data (6700), where no command is fetched and not
+-- answered (6985), and where its data are no response to that one (6A80).
 unfoldable pub response_taken : CardState → Apdu → Result ToolkitOutcome StatusWord
 response_taken card apdu =
     needs (has_no_parameters apdu) WRONG_PARAMETERS (
@@ -82,7 +84,8 @@ response_taken card apdu =
 
 -- ---- ENVELOPE (11.2.2)
 
--- call control alone is answered with data
+-- ENVELOPE: what it comes to; call control alone is answered with data. It is refused where P1 and P2 are not 00 (6A86), without data (6700),
+-- where the data are no envelope (6A80), and where the applets that it is for can't be told now (9300).
 unfoldable pub envelope_taken : CardState → Apdu → Result ToolkitOutcome StatusWord
 envelope_taken card apdu =
     needs (has_no_parameters apdu) WRONG_PARAMETERS (

@@ -28,7 +28,7 @@ pub trait Eeprom {
     /// The bytes that it holds, where it tells them.
     ghost contents: { Self → Option (List ℕ) };
 
-    /// Its counts of faults, cuts and plans, and whether it has power.
+    /// Its counts of failures and losses of power, whether it has power, and what it knows of plans.
     ghost meter: { Self → Meter };
 
     /// No byte of it was read or written, and no plan was set, since it was made.

@@ -62,7 +62,8 @@ told_back played = reverse (phone_lines played)
 -- No more lines are carried out, for this cause. Those that were read after `start` were, each in its place, and the handset rests after them.
 -- What happened is a run of the handset and the card; its trace is one that the rules of the handset ask for by these lines, and the sink has
 -- taken all of it. The device counted just what is seen of the card in it, and was given just the plans that were due. Where the card itself is
--- known, the memory stands for what it holds, its boxes have its minds, and it, or its power, is the card's at the end.
+-- known, the memory stands for what it holds, and its boxes have its minds, unless the memory failed, or power was lost or off, in the last
+-- command or reset. It, or its power, is the card's at the end.
 pub record PhoneEnds (text : List ℕ) (opening : List ScriptLine) (given : Beginning) (left : Option (List ℕ)) (end : PlayEnd) (now : Moment) : Type 0 where
   pub found : LineList
   pub played : List ScriptLine

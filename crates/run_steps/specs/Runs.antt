@@ -28,7 +28,7 @@ item_text item = trace_text (line_of item)
 abbrev pub text_of : List TraceItem → List ℕ
 text_of shown = flat_map item_text shown
 
--- the memory did not fail in what shows this, and the card had power
+-- the memory did not fail in what shows this, and the card had power all along
 abbrev pub is_calm : TraceItem → Bool
 is_calm (item.Command apdu) = true
 is_calm (item.Answer body status) = not (status.0 == MEMORY_PROBLEM.0)
@@ -41,7 +41,7 @@ ends_calm [] = true
 ends_calm (shown ∷ []) = is_calm shown
 ends_calm (shown ∷ next ∷ more) = ends_calm (next ∷ more)
 
--- a run of which no step was the last
+-- a run that no step ended
 abbrev pub GoesOn : Machine → List Step → List TraceItem → Machine → Type 0
 GoesOn old [] items new = Waits old items new
 GoesOn old (step ∷ more) items new = Then (StepGives old step) (λ middle back. GoesOn middle more back new) items

@@ -45,12 +45,12 @@ IsSeenBy card machine is_on = Known (λ known. machine ≡ Some known) (λ on. i
 abbrev pub IsSeen : CardView → Moment → Type 0
 IsSeen card now = IsSeenBy card now.machine now.is_on
 
--- The memory holds for good what the card does. Where its power alone is known this says nothing.
+-- The memory stands for what the card holds for good. Where its power alone is known this says nothing.
 abbrev pub Holds : CardView → Option Persistent → Type 0
 Holds card held = Known (λ machine. held ≡ Some machine.card.persistent) (λ on. Unit {0}) card
 
--- What the card itself leaves at the end of what was shown: its memory stands for what it holds, and where it met no fault last, just the
--- boxes that it has are there, with the minds that they have.
+-- What the card itself leaves at the end of what was shown: its memory stands for what it holds, and unless the memory failed,
+-- or power was lost or off, in the last command or reset, just the boxes that it has are there, with the minds that they have.
 pub record CardStands (machine : Machine) (shown : List TraceItem) (now : Moment) : Type 0 where
   pub stands : now.held ≡ Some machine.card.persistent
   pub minds : ends_calm shown ≡ true → now.boxes ≡ machine.card.boxes

@@ -57,7 +57,7 @@ pub record ThenShows (First : List TraceItem → Bool → Type 0) (Rest : Bool �
   pub rest : Rest between back
   pub seen : items ≡ front ++ back
 
--- what may be shown of steps, one after the other, of which none is the last
+-- what may be shown of steps, one after the other, none of which ends the run
 abbrev pub MayShowAll : Bool → List Step → List TraceItem → Bool → Type 0
 MayShowAll on [] items after = (items ≡ []) × (after ≡ on)
 MayShowAll on (step ∷ more) items after = ThenShows (MayShow on step) (λ between back. MayShowAll between more back after) items
@@ -73,11 +73,11 @@ MayEnd step items = ⊥
 abbrev pub StepShows : CardView → Step → List TraceItem → CardView → Type 0
 StepShows old step items new = KnownAlike (λ card next. StepGives card step items next) (λ on after. MayShow on step items after) old new
 
--- a step that is the last
+-- a step that ends the run
 abbrev pub LastShows : CardView → Step → List TraceItem → CardView → Type 0
 LastShows old step items new = KnownAlike (λ card next. StepEnds card step items next) (λ on after. MayEnd step items) old new
 
--- steps, one after the other, of which none was the last
+-- steps, one after the other, none of which ended the run
 abbrev pub StepsShow : CardView → List Step → List TraceItem → CardView → Type 0
 StepsShow old steps items new = KnownAlike (λ card next. GoesOn card steps items next) (λ on after. MayShowAll on steps items after) old new
 
@@ -85,6 +85,6 @@ StepsShow old steps items new = KnownAlike (λ card next. GoesOn card steps item
 abbrev pub IsRunOf : CardView → List Step → List TraceItem → CardView → Type 0
 IsRunOf old steps items new = KnownAlike (λ card next. IsRun card steps items next) (λ on after. Unit {0}) old new
 
--- of the card itself a run; of its power, steps of which none was the last, with what it allows
+-- of the card itself a run; of its power, what it allows to be shown of steps, none of which ended the run
 abbrev pub RunShows : CardView → List Step → List TraceItem → CardView → Type 0
 RunShows old steps items new = KnownAlike (λ card next. IsRun card steps items next) (λ on after. MayShowAll on steps items after) old new

@@ -9,11 +9,11 @@ use Rattle.script_reader.specs.declared.faults.ScriptFault.{ScriptFault}
 use Rattle.script_reader.specs.declared.faults.ScriptFault.TheVariants.{BadLine, NoRoom, ReadFailed}
 use Rattle.script_reader.specs.declared.reader.ScriptReader.{ScriptReader}
 
--- where the reader of lines stands, how many lines were handed out, and how many bytes those to come may take up
+-- where the reader of lines stands
 abbrev pub reading : ScriptReader → Reading
 reading script = script.reader
 
--- how many lines were read
+-- how many lines were handed out
 abbrev pub line_count : ScriptReader → ℕ
 line_count script = script.number
 

@@ -55,7 +55,8 @@ pub record TpduIsTold (tpdu : List ℕ) (kept : Option Answer) (old : CardView) 
   pub gives : CourseGives (link_answer kept tpdu) old account.own reply after new
   pub shown_is : account.shown ≡ shown_for tpdu reply
 
--- what the link kept and the card before it, what came of it, and the two after it
+-- of a line (`Deed`): what the link kept and the card before it, `kept` and `old`; what came of it, the account; and link and card after it,
+-- `after` and `new`
 abbrev pub IsTold : Deed → Option Answer → CardView → Account → Option Answer → CardView → Type 0
 IsTold (Takes step) kept old account after new = StepIsTold step kept old account after new
 IsTold (Transfers tpdu) kept old account after new = TpduIsTold tpdu kept old account after new
@@ -93,8 +94,9 @@ pub record ShowsAsMany (own shown : List TraceItem) : Type 0 where
 
 -- ---- where the sink fails in it
 
--- What a line has shown, and where card and link stand then, where the sink fails in the last line of that: what the link kept, the card,
--- what the card showed of its own, what was to be written, the plan that waited, those that were set, and what link and card are then.
+-- What a line has shown, and where card and link stand then, where the sink fails in the last line of that. Before the line: what the link
+-- kept, `kept`, the card, `old`, and the plan that waited. Of the line: what the card showed of its own, `own`, what was to be written,
+-- `pending`, and the plans that were set. After it: what the link keeps and the card, `after` and `new`.
 abbrev pub BreaksOffDeed : Deed → Option Answer → CardView → List TraceItem → List TraceItem → Plan → List Plan → Option Answer → CardView → Type 0
 BreaksOffDeed (Takes step) kept old own pending waiting set after new =
     (pending ≡ own) × BreaksOff old step own (armed_after waiting (step ∷ [])) set new

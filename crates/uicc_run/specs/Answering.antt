@@ -27,8 +27,8 @@ use Rattle.uicc_run.specs.declared.pages.Page.{Page}
 abbrev pub NameNoImage : List (List ℕ) → Type 0
 NameNoImage words = (asked : Request) → IsRequest words asked → asked.devices.image ≡ None
 
--- The run was carried out over a device that is gone, which stood for this at the end and had counted so much; so are the boxes. Its trace
--- is that of a memory that tells its bytes, or that of any.
+-- A run over a device and boxes that are gone at the end: what the device stood for then, what it had counted, and the minds in the boxes.
+-- Its trace is that of a memory that tells its bytes, or that of any.
 pub record HasTrace (given : Given) (told : Bool) (words : List (List ℕ)) (seen : Seen) : Type 0 where
   pub held : Option Persistent
   pub meter : Meter
@@ -36,7 +36,7 @@ pub record HasTrace (given : Given) (told : Bool) (words : List (List ℕ)) (see
   pub trace : Traces given told seen.left (record { held = held; taken = seen.taken; meter = meter; boxes = boxes }) seen.status
       (IsSeenCause words seen given.meter meter)
 
--- So many lines from this number were carried out in a long run, over a device and boxes that are gone.
+-- A long run of so many lines from this number, over a device and boxes that are gone at the end.
 pub record HasLoaded (given : Given) (told : Bool) (start count : ℕ) (before : Option (List ℕ)) (seen : Seen) : Type 0 where
   pub held : Option Persistent
   pub meter : Meter

@@ -20,9 +20,9 @@ pub record FitsRun {B : Type 0} (words : List (List ℕ)) (byte_count : ℕ) (ca
 -- ---- what the memory holds where no card was opened
 
 -- In `open` each byte that the store stands for is as it was, where the run ended for want of memory, for a card that is none or that lacks a
--- box, or where the memory failed and held no card. Where a card is made: if the memory failed in that, the first eight of these bytes are
--- the old ones, or it holds just that card; and if there was no memory for the rest, the device is as it was, or it holds just that card. Of the
--- bytes of a memory that tells none, this says nothing.
+-- box, or where the memory failed or lost power and held no card. Where a card is made: if the memory failed or lost power in that, the first
+-- eight of these bytes are the old ones, or it holds just that card; and if there was no memory for the rest, the device is as it was, or it
+-- holds just that card. Of the bytes of a memory that tells none, this says nothing.
 pub record KeepsMemory (given : Given) (ending : Ending) (before after : World) (MemoryIsSame : Type 0) : Type 0 where
   pub bytes : given.first ≡ None → KeepsBytes ending (held_in given.pages before.contents)
       → content_in given.pages after.contents ≡ content_in given.pages before.contents
@@ -50,7 +50,7 @@ pub record IsLoadCaused (given : Given) (before after : World) (MemoryIsSame Box
   pub boxes_kept : IsUnopened ending → BoxesAreSame
   pub no_memory : ending ≡ NoMemory → MemoryIsSame ⊎ HoldsFixed given (content_in given.pages after.contents)
 
--- and of a run whose memory and boxes are gone, of which that memory had counted so much before and so much at the end
+-- and of a run whose memory and boxes are gone at the end: what the memory's device counted before it, and what it had counted then
 pub record IsSeenCause (words : List (List ℕ)) (seen : Seen) (memory memory_then : Meter) (ending : Ending) : Type 0 where
   pub usage : ending ≡ Usage → AskForRun words → ⊥
   pub read_failed : status_for ending ≡ 3 → Rose seen.source seen.source_then

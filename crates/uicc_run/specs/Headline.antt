@@ -29,8 +29,8 @@ pub record IsQuiet (given : Given) (leaves : Leaves) : Type 0 where
   pub written : leaves.taken ≡ given.before
   pub counted : IsUnplanned given.meter leaves.meter
 
--- `start` was read, and no more of the text was taken than it needs, but for the rest of the last piece. The card was not opened. By the
--- lines before `start` and the card that they describe, if they do, this is known of a memory that tells its bytes.
+-- `start` was read, and no more of the text was taken than it needs, but for the rest of the last piece. The card was not opened. `IsKnown`
+-- is what is known of a memory that tells its bytes, by the lines before `start` and the card that they describe, if they do.
 pub record IsNotOpened (given : Given) (told : Bool) (left : Option (List ℕ)) (leaves : Leaves) (IsKnown : List ScriptLine → Option Persistent → Type 0) : Type 0 where
   pub found : LineList
   pub more : LineList
@@ -64,12 +64,12 @@ pub record LacksBox (given : Given) (shelf : ℕ) (section : List ScriptLine) (l
   pub first_missing : IsFirstWithoutBox holds.start.rows (with_all_shelves given.boxes) shelf
   pub counted : IsCounted given.meter leaves.meter [] []
 
--- what a memory stands for that stood for this, where a fault may have come after the migration
+-- what a memory stands for that stood for this, where it may have failed or lost power after the migration
 abbrev pub IsMigratedAtMost : Result Persistent ℕ → Option Persistent → Type 0
 IsMigratedAtMost (Ok state) held = (held ≡ Some state) ⊎ (held ≡ Some (migrated state))
 IsMigratedAtMost (Err at) held = held ≡ None
 
--- What a memory stands for in which the opening failed: the card that the lines describe, or where they describe none, what it stood for
+-- What a memory stands for that failed or lost power in the opening: the card that the lines describe, or where they describe none, what it stood for
 -- before, if it did; or that card migrated.
 pub record FailsToOpen (given : Given) (card held : Option Persistent) : Type 0 where
   pub made_at_most : (state : Persistent) → card ≡ Some state → IsMigratedAtMost (Ok state) held
@@ -90,7 +90,8 @@ is_known (TheCard machine) = true
 is_known (ItsPower on) = false
 
 -- What a run of a script comes to before its last line, where its memory tells its bytes, or over any. Before `start` the trace is empty, and
--- so it is where the card was not opened. Where the memory failed in the formatting, what it holds of that is for `IsHalfMade`.
+-- so it is where the card was not opened. Where the memory failed or lost power in the formatting, what it holds of that is for
+-- `IsHalfMade`.
 abbrev pub Comes : Given → Bool → Option (List ℕ) → Ending → Leaves → Type 0
 Comes given told left Usage leaves = IsQuiet given leaves
 Comes given told left NoMemory leaves = HasNoMemory given told left leaves

@@ -114,14 +114,14 @@ StopsPlaying given found left end = StopsReading (may_stand given.is_served) giv
 abbrev pub HasKindsOf : List (Option AppletState) → List (Option AppletState) → Type 0
 HasKindsOf boxes others = (shelf kind : ℕ) → kind_on boxes shelf ≡ Some kind → kind_on others shelf ≡ Some kind
 
--- What the card itself leaves: the memory stands for what it holds. Each box that it has is handed back on its shelf, of its kind; where
--- nothing failed in the last command or reset just these are, with the minds that they have.
+-- What the card itself leaves: the memory stands for what it holds. Each box that it has is handed back on its shelf, of its kind; unless the
+-- memory failed, or power was lost or off, in the last command or reset just these are, with the minds that they have.
 pub record CardLeaves (machine : Machine) (own : List TraceItem) (now : Leaves) : Type 0 where
   pub stands : now.held ≡ Some machine.card.persistent
   pub kinds : HasKindsOf machine.card.boxes now.boxes
   pub minds : ends_calm own ≡ true → now.boxes ≡ machine.card.boxes
 
--- The run ended so: the card that was opened took the steps of the lines after `start`, of which none was the last, and of a TPDU the
+-- The run ended so: the card that was opened took the steps of the lines after `start`, none of which ended the run, and of a TPDU the
 -- step of the APDU that the link passed, or none. The trace shows what the card showed, or what the link made of that. The device counted
 -- what the card showed, and was given just the plans that were due.
 pub record EndsSo (given : Given) (first : CardView) (left : Option (List ℕ)) (end : PlayEnd) (now : Leaves) : Type 0 where

@@ -23,11 +23,11 @@ use Rattle.uicc_run.specs.declared.endings.Ending.TheVariants.{Usage, EepromFail
 
 -- ---- which scripts end with which status
 
--- By the script alone, over any memory and any sink. Where neither the source nor the sink failed and the run doesn't end for its memory: a
--- good script ends with 0; another one with 2 for its first bad line, or with 8 for the first for which there is no room, and the trace of a
--- sink that tells what it has taken then ends with its number; or either for want of memory, with 5; or, where `start` comes after good lines,
--- with 7, of which no more is known by the script alone. Status 0 comes only for a good script, which is read to its end then; 2 and 8 only so;
--- and 7 only where `start` comes after good lines.
+-- By the script alone, over any memory and any sink. The first three fields are of a run in which neither the source nor the sink failed and
+-- whose status isn't 6. A good script ends with 0, or with 5 or 7. With a first bad line it ends with 2 and the number of that line, or with 5,
+-- or, where the line comes after `start`, with 7. With a first line for which there is no room it ends with 8 and its number, or with 5. The
+-- number is seen where the sink tells what it has taken. The other fields: 0 comes only for a good script, which is read to its end then; 2 and
+-- 8 only for such a line; and 7 only where `start` comes after good lines.
 pub record EndsByScript (given : Given) (words : List (List ℕ)) (seen : Seen) : Type 0 where
   pub good_over_any : AskForRun words → IsUndisturbed seen → IsGoodScript given → (seen.status ≡ 0) ⊎ (seen.status ≡ 5) ⊎ (seen.status ≡ 7)
   pub bad_over_any : AskForRun words → IsUndisturbed seen → (found : LineList) → IsFirstBad given found

@@ -128,8 +128,8 @@ pub record RefusesAndTells (given : Given) (taken : Option (List ℕ)) : Type 0 
 abbrev pub MeetsBad : Given → LineList → Type 0
 MeetsBad given found = StopsBefore given found (IsBadHere given.boxes) ⊎ (StopsBehind given found × CanOpen given)
 
--- The memory failed while it was formatted as the lines before `start` describe a card: its first eight bytes are the old ones, or it
--- holds the whole of that card.
+-- The memory failed or lost power while it was formatted as the lines before `start` describe a card: its first eight bytes are the old
+-- ones, or it holds the whole of that card.
 pub record IsHalfMade (given : Given) (old new : Option (List ℕ)) : Type 0 where
   pub card : Persistent
   pub reaches : ReachesStart given (Some card)

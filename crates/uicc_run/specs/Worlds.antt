@@ -12,13 +12,13 @@ use Rattle.uicc_run.specs.Stores.{held_in}
 
 -- a source, a sink, a memory and the boxes, as they are seen at one moment
 pub record World : Type 0 where
-  -- what the source has left to give, where it tells, and the faults that it counted
+  -- what the source has left to give, where it tells that, and how many failures it counted
   pub left : Option (List ℕ)
   pub source : ℕ
-  -- what the sink has taken, where it tells, and the faults that it counted
+  -- what the sink has taken, where it tells that, and how many failures it counted
   pub taken : Option (List ℕ)
   pub sink : ℕ
-  -- the bytes of the memory, where it tells them, and the counts of its device
+  -- the bytes of the memory, where it tells them, and what can be read off its device: its counts, its power, its plans
   pub contents : Option (List ℕ)
   pub meter : Meter
   -- the minds in the boxes

@@ -51,9 +51,9 @@ use terminal_side::Phone;
 use uicc_types::Plan;
 use update_journal::Journal;
 
-/// Carries out the script under the words of the command line, over a memory that has power, of 71,680 bytes with
-/// `--store pages` and of 65,536 otherwise, with the boxes of the applets on their shelves. It answers the status of the program,
-/// and hands back the memory and the boxes.
+/// Carries out the script under the words of the command line, over a memory of 71,680 bytes with `--store pages` and of 65,536
+/// otherwise, with the boxes of the applets on their shelves, at most 32. It answers the status of the program, and hands back the
+/// memory and the boxes.
 pub fn run<R: Source, W: Sink, E: Eeprom, B: Applet>(
     alloc: Global,
     words: &[String],
