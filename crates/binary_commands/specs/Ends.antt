@@ -42,7 +42,7 @@ pub record Passes (result : Tried) (old new : Memory) (selection : Selection) (m
   pub stopped : OnErr result (IsStopped old new (λ state. (settled_file selection (meaning state)).passed))
   pub still : StaysStill old new (λ state. (settled_file selection (meaning state)).passed)
 
--- What was tried has written: nothing where it is refused; these changes where it is carried out; and where a fault stops it, nothing or these.
+-- What a command that was tried has written: nothing where it is refused; these changes where it is carried out; and where a fault stops it, nothing or these.
 abbrev pub Puts : Tried → Memory → Memory → (Persistent → List Change) → Type 0
 Puts (Ok (Ok selection)) old new changes = IfSome (held old) (λ state. new.told ≡ option_map (all_written (changes state)) old.told)
 Puts (Ok (Err status)) old new changes = new.told ≡ old.told

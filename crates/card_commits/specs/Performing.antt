@@ -20,8 +20,8 @@ CommitsAtMost times before now = (done : ℕ) × ((done ≤ times) × (now ≡ r
 
 -- ---- the bytes
 
--- Some changes, one after the other, which a fault stopped: so many of them are counted, and the bytes are those after these, or after one
--- more.
+-- Some changes, one after the other, which a fault stopped: so many of them, be they all, are counted, and the bytes are those after these,
+-- or after one more.
 pub record StopsAmong (changes : List Change) (old new : Memory) : Type 0 where
   pub done : ℕ
   pub few : done ≤ length changes

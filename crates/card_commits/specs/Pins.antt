@@ -34,7 +34,8 @@ fields_of (Value value) = OfValue
 fields_of (Enabled enabled) = OfEnabling
 fields_of (Unblocked value) = OfUnblocking
 
--- the first of the bytes of a PIN's entry that are set, and the one after the last: enabled is byte 1, the tries are 2 and 3, the value 4 to 11
+-- the first of the bytes of a PIN's entry that are set, and the one after the last: enabled is byte 1, the tries are 2 and 3, the value 4 to 11;
+-- what lies between and isn't set is written as it stands
 abbrev pub span_set : PinFields → ℕ × ℕ
 span_set OfTries = (2, 3)
 span_set OfUnblockTries = (3, 4)

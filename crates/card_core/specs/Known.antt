@@ -73,7 +73,7 @@ pub record IsLeftAt (old new : CardParts) (card : CardState) (commits : List Per
   pub left : IsSomeAnd (card_due new) (IsLeft card (card.persistent ∷ commits))
   pub stops : StopsAt card.persistent commits old.commits new.commits (held_by new)
 
--- what a fault leaves in a store that tells its bytes
+-- what a fault leaves in a store that tells its bytes; of a state that is known otherwise nothing
 abbrev pub StandsBy : {X : Type 0} → KnownBy → Result X StoreFault → CardParts → CardParts → CardState → List Persistent → Type 0
 StandsBy ByStore result old new card commits = OnErr result (IsLeftAt old new card commits)
 StandsBy ByTable result old new card commits = Unit {0}

@@ -54,7 +54,7 @@ AnswersLeaveGoodCards =
     (knows : Instruction → Bool) (card : CardState) (bytes : List ℕ) → has_toolkit knows ≡ true → IsGood card → AreBytes bytes
     → IsGood (answer_of knows card bytes).state × All IsSoundCard (answer_of knows card bytes).commits
 
--- what it passes is what its changes make of what it holds: it holds for good, after each commit, what is there after that change
+-- what a good card that runs applets holds for good after each commit of an answer is what the changes up to that one make of what it held
 abbrev pub AnswersPassChanges : Type 0
 AnswersPassChanges =
     (knows : Instruction → Bool) (card : CardState) (bytes : List ℕ) → has_toolkit knows ≡ true → IsGood card → AreBytes bytes

@@ -61,7 +61,7 @@ abbrev pub is_length_of : List ℕ → ℕ → Bool
 is_length_of bytes expected = expected == 256 || expected == length bytes
 
 -- FETCH: what it comes to, the bytes of the command that is to be fetched. It is refused where P1 and P2 are not 00 (6A86), with data or without
--- Le (6700), where no command is to be fetched (6985), and where Le is another length (6CXX).
+-- Le (6700), where no command is to be fetched (6985), and where Le is another length than that of the command, where 00 stands for all (6CXX).
 unfoldable pub command_fetched : CardState → Apdu → Result ToolkitOutcome StatusWord
 command_fetched card apdu =
     needs (has_no_parameters apdu) WRONG_PARAMETERS (
@@ -85,7 +85,8 @@ response_taken card apdu =
 -- ---- ENVELOPE (11.2.2)
 
 -- ENVELOPE: what it comes to; call control alone is answered with data. It is refused where P1 and P2 are not 00 (6A86), without data (6700),
--- where the data are no envelope (6A80), and where the applets that it is for can't be told now (9300).
+-- where the data are no envelope (6A80), and where there is no place left to keep it for the applets that wait, or where call
+-- control would have to wait (9300).
 unfoldable pub envelope_taken : CardState → Apdu → Result ToolkitOutcome StatusWord
 envelope_taken card apdu =
     needs (has_no_parameters apdu) WRONG_PARAMETERS (

@@ -6,7 +6,7 @@ use Rattle.card_state.specs.Persistent.{File, Pin, Persistent}
 use Rattle.card_state.specs.States.{registration_of}
 use Rattle.card_state.specs.Changing.{with_file_at, with_row_on, with_bytes, with_record, with_newest_record, with_life, with_codes, with_kept_committed}
 
--- The fields of a PIN that one commit sets: its tries; those of its UNBLOCK PIN; its value or whether it is enabled, with its tries; or
+-- The fields of a PIN that one commit sets: its tries (the retry counter); those of its UNBLOCK PIN; its value or whether it is enabled, with its tries; or
 -- all but the value of the UNBLOCK PIN (ETSI TS 102 221, 11.1.9 to 11.1.13).
 pub data PinFields : Type 0 where
   OfTries : PinFields

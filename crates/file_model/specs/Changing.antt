@@ -19,7 +19,7 @@ FilesPassChanges =
     → IfOk (file_outcome command state seen selection apdu) (λ outcome. outcome.passed ≡ states_after state outcome.changes)
 
 -- of a PIN command: the states with the PINs that it passes are those after the changes that leave them (a `PutPin` leaves its PINs whatever its
--- fields are; which bytes these are is for who carries the command out to show)
+-- fields are: these tell which bytes are written)
 abbrev pub PinsPassChanges : Type 0
 PinsPassChanges =
     (command : PinCommand) (state : Persistent) (verified : Verified) (apdu : Apdu)

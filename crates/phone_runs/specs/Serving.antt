@@ -43,7 +43,7 @@ pub record CarriesMore (old new : Kept) (before after : Carrier) : Type 0 where
   pub sent : new.known.commands ≤ old.known.commands + times
   pub carried : Carries times before after
 
--- A line left the handset and its carrier as they were; or the link of that, where it is one, was given a TPDU at least for
+-- Either a line left the handset and its carrier as they were; or the link of that, where it is one, was given a TPDU at least for
 -- each command that it sent for the line.
 abbrev pub LineIsCarried : Kept → Kept → Carrier → Carrier → Type 0
 LineIsCarried old new before after = ((new ≡ old) × (after ≡ before)) ⊎ Carries new.known.commands before after

@@ -89,6 +89,6 @@ abbrev pub tpdus_if_carried : Option Apdu → List ℕ → ℕ
 tpdus_if_carried None body = 0
 tpdus_if_carried (Some command) body = if is_carried command then tpdus_sent command body else 0
 
--- by how many TPDUs these bytes go over the link, where their answer has these data
+-- by how many TPDUs at least these bytes go over the link, where their answer has these data
 abbrev pub tpdus_for : List ℕ → List ℕ → ℕ
 tpdus_for bytes body = tpdus_if_carried (command_in bytes) body

@@ -11,7 +11,7 @@ use Rattle.t0_link.specs.Tpdus.{transfer_in, p3_of, apdu_of}
 
 -- ---- what is answered and kept
 
--- what is seen of a link: what it keeps, and how many TPDUs it was given
+-- what is seen of a link: what it keeps, and how often it was given bytes to exchange, be they a TPDU or not, or sent GET RESPONSE by itself
 pub record LinkState : Type 0 where
   pub kept : Option Answer
   pub tpdus : ℕ

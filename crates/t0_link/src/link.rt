@@ -123,7 +123,7 @@ impl Link {
         fetch(p3, expected, &mut self.kept, out);
     }
 
-    /// Sends a command as a terminal does: as its TPDU, then GET RESPONSE for its data, which are cut to Le. Each is counted. The faults
+    /// Sends a command as a terminal does: as its TPDU, then GET RESPONSE for its data, which are cut to Le. At least these are counted. The faults
     /// are those of `exchange`.
     pub fn command<E: Endpoint>(
         &mut self,

@@ -26,11 +26,12 @@ entry_of row = record {
   kept = row.kept;
 }
 
--- the codes of the row of a shelf; none where there is no row
+-- the event codes of the row of a shelf; none where there is no row
 abbrev pub codes_on : List Registration → ℕ → List ℕ
 codes_on rows shelf = option_map_or (λ row. row.codes) (row_on rows shelf) []
 
--- What a commit for an act of the applet of a shelf changes, which leaves these rows: the bytes that the row keeps, or else its events.
+-- What is changed by the commit of an act of the applet on this shelf, after which the rows are these: for Keep the bytes that the row keeps, for
+-- Register and Deregister its events. No other act commits.
 abbrev pub change_by : ℕ → Act → List Registration → Change
 change_by shelf (Keep bytes) rows = PutKept shelf bytes
 change_by shelf _ rows = PutEvents shelf (events_of (codes_on rows shelf))

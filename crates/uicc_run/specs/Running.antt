@@ -89,7 +89,7 @@ pub record HasCauses (status : ℕ) (before after : World) : Type 0 where
 
 -- What was carried out, and what the sink has of it, where it tells that. Of a script for a card that tells its bytes, be the card made, opened
 -- or served by a handset: where the memory tells its bytes too, the trace is that of the abstract card, and the memory holds at the end what that
--- card does; over a memory that tells none, as an image, it shows what the card's power allows. A long run comes to the counts of a trace that
+-- card holds; over a memory that tells none, as an image, it shows what the card's power allows. A long run comes to the counts of a trace that
 -- its lines have on its card, or, over a memory that tells nothing, of one that they have on a card with power. Where the script tells its bytes:
 -- of the channels of a terminal the trace is that of the script's lines, and on each channel the card got the first of the bytes that it gave, in
 -- order.
