@@ -21,7 +21,7 @@ abbrev pub new_adapter : Bool → ℕ → Adapter
 new_adapter has_file size = record {
   has_file = has_file;
   size = size;
-  meter = record { faults = 0; cuts = 0; powered = true; plans = 0; latest = NONE; plan = NONE };
+  meter = record { faults = 0; cuts = 0; powered = true; plans = 0; latest = NONE; plan = NONE; settings = 0; is_idle = true };
   programs = 0;
   reads = 0;
   is_fresh = true;
@@ -34,11 +34,11 @@ is_planned (Some call) number = call == number
 
 -- the call is counted
 abbrev pub after_read : Adapter → Adapter
-after_read device = record device { reads = raised device.reads; is_fresh = false }
+after_read device = record device { meter = record device.meter { is_idle = false }; reads = raised device.reads; is_fresh = false }
 
 -- a program call is counted
 abbrev pub after_program : Adapter → Adapter
-after_program device = record device { programs = raised device.programs; is_fresh = false }
+after_program device = record device { meter = record device.meter { is_idle = false }; programs = raised device.programs; is_fresh = false }
 
 -- What a call with power leaves: a failure is counted, and a loss of power is counted and takes the power.
 abbrev pub left_by : Result ⊤ EepromFault → Adapter → Adapter

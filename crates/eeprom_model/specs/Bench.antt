@@ -63,7 +63,7 @@ programmed_now at bytes bench = programmed_under (planned_for (λ cut. cut.call)
 
 -- what a program call comes to: without power nothing is done
 unfoldable pub program_outcome : ℕ → List ℕ → Bench → Outcome
-program_outcome at bytes bench = if bench.meter.powered then programmed_now at bytes (record bench { programs = raised bench.programs; is_fresh = false }) else lost bench
+program_outcome at bytes bench = if bench.meter.powered then programmed_now at bytes (record bench { meter = record bench.meter { is_idle = false }; programs = raised bench.programs; is_fresh = false }) else lost bench
 
 -- a read call fails where the plan names it
 abbrev pub read_under : Option ℕ → Bench → Outcome
@@ -72,7 +72,7 @@ read_under None bench = done bench
 
 -- what a read call comes to: without power nothing is done
 unfoldable pub read_outcome : Bench → Outcome
-read_outcome bench = if bench.meter.powered then read_under (planned_for (λ call. call) (raised bench.reads) bench.meter.plan.read_fail) (record bench { reads = raised bench.reads; is_fresh = false }) else lost bench
+read_outcome bench = if bench.meter.powered then read_under (planned_for (λ call. call) (raised bench.reads) bench.meter.plan.read_fail) (record bench { meter = record bench.meter { is_idle = false }; reads = raised bench.reads; is_fresh = false }) else lost bench
 
 -- a new plan, and no calls counted for it yet
 abbrev pub given_plan : Plan → Bench → Bench
@@ -86,7 +86,7 @@ no_plan = record { cut = None; fail = None; read_fail = None }
 abbrev pub new_bench : ℕ → Bench
 new_bench size = record {
   bytes = replicate size 255;
-  meter = record { faults = 0; cuts = 0; powered = true; plans = 0; latest = no_plan; plan = no_plan };
+  meter = record { faults = 0; cuts = 0; powered = true; plans = 0; latest = no_plan; plan = no_plan; settings = 0; is_idle = true };
   programs = 0;
   reads = 0;
   is_fresh = true;

@@ -50,7 +50,8 @@ pub trait Eeprom {
         ensures cause { HasCause (meter self.old) (meter self.new) result }
         ensures off { (meter self.old).powered ≡ false →
             (result ≡ Err EepromFault.PowerLost) × (meter self.new ≡ meter self.old) }
-        ensures used { (meter self.old).powered ≡ true → is_fresh self.new ≡ false };
+        ensures used { (meter self.old).powered ≡ true →
+            (is_fresh self.new ≡ false) × ((meter self.new).is_idle ≡ false) };
 
     /// Writes bytes into one page, at least one. After a fault their range holds any bytes, unless there was no power.
     fn program(&mut self, at: usize, bytes: &[u8]) -> Result<(), EepromFault>
@@ -64,7 +65,8 @@ pub trait Eeprom {
         ensures off { (meter self.old).powered ≡ false →
             (result ≡ Err EepromFault.PowerLost) × (meter self.new ≡ meter self.old)
             × (contents self.new ≡ contents self.old) }
-        ensures used { (meter self.old).powered ≡ true → is_fresh self.new ≡ false };
+        ensures used { (meter self.old).powered ≡ true →
+            (is_fresh self.new ≡ false) × ((meter self.new).is_idle ≡ false) };
 
     /// Gives it power.
     fn power_up(&mut self)
