@@ -38,8 +38,7 @@ impl Model for FileEeprom {
     ghost view = { λ device. record {
       has_file = is_some device.file;
       size = device.size;
-      meter = record { faults = device.faults; cuts = device.cuts; powered = device.powered; plans = device.plans; latest = device.latest; plan = device.plan; settings = device.settings; is_idle = device.is_idle };
-      programs = device.programs;
+      meter = record { faults = device.faults; cuts = device.cuts; powered = device.powered; plans = device.plans; latest = device.latest; plan = device.plan; settings = device.settings; is_idle = device.is_idle; programs = device.programs };
       reads = device.reads;
       is_fresh = device.is_fresh;
     } };
@@ -159,6 +158,7 @@ impl FileEeprom {
 
 impl Eeprom for FileEeprom {
     ghost use Rattle.std.specs.Prelude.{◌≡◌, ◌≢◌, ◌+◌, ◌≤◌, ◌⊎◌, ◌↔◌, None, true, false, length};
+    ghost use Rattle.uicc_types.specs.Counts.{raised};
     ghost use Rattle.eeprom_model.specs.Faults.{HasCause};
     ghost use Rattle.eeprom_model.specs.Ranges.{IsPageWrite};
     ghost use Rattle.eeprom_model.specs.Adapter.{after_read, after_program, left_by, fails_to_read, is_cut_off, fails_to_program, given_plan};
@@ -185,6 +185,7 @@ impl Eeprom for FileEeprom {
             (result ≡ Err EepromFault.PowerLost) × (self.new ≡ self.old) }
         ensures used { self.old.meter.powered ≡ true →
             (self.new.is_fresh ≡ false) × (self.new.meter.is_idle ≡ false) }
+        ensures calls { self.new.meter.programs ≡ self.old.meter.programs }
         ensures left { self.old.meter.powered ≡ true → self.new ≡ left_by result (after_read self.old) }
         ensures never_cut { self.old.meter.powered ≡ true → result ≢ Err EepromFault.PowerLost }
         ensures fails { self.old.meter.powered ≡ true
@@ -212,6 +213,7 @@ impl Eeprom for FileEeprom {
             (result ≡ Err EepromFault.PowerLost) × (self.new ≡ self.old) }
         ensures used { self.old.meter.powered ≡ true →
             (self.new.is_fresh ≡ false) × (self.new.meter.is_idle ≡ false) }
+        ensures calls { self.old.meter.powered ≡ true → self.new.meter.programs ≡ raised self.old.meter.programs }
         ensures left { self.old.meter.powered ≡ true → self.new ≡ left_by result (after_program self.old) }
         ensures cut { self.old.meter.powered ≡ true → (result ≡ Err EepromFault.PowerLost) ↔
             (is_cut_off (after_program self.old) ≡ true) }

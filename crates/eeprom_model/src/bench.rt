@@ -1,6 +1,7 @@
 //! A device of the bench: a vector in which faults are planned.
 ghost use Rattle.std.specs.Prelude.{◌≡◌, refl, ◌+◌, ◌≤◌, IsTrue, Some, true, false, length, replicate, option_map, slice_range, IfOk, IfSome, OnOk, OnErr, IsErrOf};
 ghost use Rattle.list_laws.specs.Patches.{patched, Torn};
+ghost use Rattle.uicc_types.specs.Counts.{raised};
 ghost use Rattle.uicc_types.specs.Told.{Becomes};
 ghost use Rattle.eeprom_model.specs.Faults.{HasCause};
 ghost use Rattle.eeprom_model.specs.Ranges.{IsPageWrite};
@@ -36,8 +37,7 @@ impl Model for BenchEeprom {
 
     ghost view = { λ bench. record {
       bytes = bench.bytes.items;
-      meter = record { faults = bench.faults; cuts = bench.cuts; powered = bench.powered; plans = bench.plans; latest = bench.latest; plan = bench.plan; settings = bench.settings; is_idle = bench.is_idle };
-      programs = bench.programs;
+      meter = record { faults = bench.faults; cuts = bench.cuts; powered = bench.powered; plans = bench.plans; latest = bench.latest; plan = bench.plan; settings = bench.settings; is_idle = bench.is_idle; programs = bench.programs };
       reads = bench.reads;
       is_fresh = bench.is_fresh;
     } };
@@ -145,6 +145,7 @@ impl Eeprom for BenchEeprom {
             (result ≡ Err EepromFault.PowerLost) × (self.new ≡ self.old) }
         ensures used { self.old.meter.powered ≡ true →
             (self.new.is_fresh ≡ false) × (self.new.meter.is_idle ≡ false) }
+        ensures calls { self.new.meter.programs ≡ self.old.meter.programs }
         ensures outcome { read_outcome self.old ≡ record { answer = result; left = self.new } }
     {
         if !self.powered {
@@ -172,6 +173,7 @@ impl Eeprom for BenchEeprom {
             (result ≡ Err EepromFault.PowerLost) × (self.new ≡ self.old) }
         ensures used { self.old.meter.powered ≡ true →
             (self.new.is_fresh ≡ false) × (self.new.meter.is_idle ≡ false) }
+        ensures calls { self.old.meter.powered ≡ true → self.new.meter.programs ≡ raised self.old.meter.programs }
         ensures outcome { program_outcome at bytes.now self.old ≡ record { answer = result; left = self.new } }
     {
         if !self.powered {

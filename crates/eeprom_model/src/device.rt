@@ -1,7 +1,7 @@
 //! What is asked of an EEPROM, and what can go wrong in it.
 ghost use Rattle.std.specs.Prelude.{◌≡◌, ◌+◌, ◌≤◌, ℕ, Bool, List, Option, false, true, length, option_map, slice_range, IfSome, OnOk, OnErr};
 ghost use Rattle.list_laws.specs.Patches.{patched, Torn};
-ghost use Rattle.uicc_types.specs.Counts.{Meter, armed};
+ghost use Rattle.uicc_types.specs.Counts.{Meter, armed, raised};
 ghost use Rattle.uicc_types.specs.Told.{AreBytes, Becomes};
 ghost use Rattle.eeprom_model.specs.Faults.{HasCause};
 ghost use Rattle.eeprom_model.specs.Ranges.{IsPageWrite};
@@ -28,7 +28,7 @@ pub trait Eeprom {
     /// The bytes that it holds, where it tells them.
     ghost contents: { Self → Option (List ℕ) };
 
-    /// Its counts of faults, cuts and plans, and whether it has power.
+    /// Its counts of faults, cuts, plans and program calls, and whether it has power.
     ghost meter: { Self → Meter };
 
     /// No byte of it was read or written, and no plan was set, since it was made.
@@ -51,7 +51,8 @@ pub trait Eeprom {
         ensures off { (meter self.old).powered ≡ false →
             (result ≡ Err EepromFault.PowerLost) × (meter self.new ≡ meter self.old) }
         ensures used { (meter self.old).powered ≡ true →
-            (is_fresh self.new ≡ false) × ((meter self.new).is_idle ≡ false) };
+            (is_fresh self.new ≡ false) × ((meter self.new).is_idle ≡ false) }
+        ensures calls { (meter self.new).programs ≡ (meter self.old).programs };
 
     /// Writes bytes into one page, at least one. After a fault their range holds any bytes, unless there was no power.
     fn program(&mut self, at: usize, bytes: &[u8]) -> Result<(), EepromFault>
@@ -66,7 +67,8 @@ pub trait Eeprom {
             (result ≡ Err EepromFault.PowerLost) × (meter self.new ≡ meter self.old)
             × (contents self.new ≡ contents self.old) }
         ensures used { (meter self.old).powered ≡ true →
-            (is_fresh self.new ≡ false) × ((meter self.new).is_idle ≡ false) };
+            (is_fresh self.new ≡ false) × ((meter self.new).is_idle ≡ false) }
+        ensures calls { (meter self.old).powered ≡ true → (meter self.new).programs ≡ raised (meter self.old).programs };
 
     /// Gives it power.
     fn power_up(&mut self)

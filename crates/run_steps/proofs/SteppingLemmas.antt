@@ -133,7 +133,7 @@ pub machine_set : (from set : End) (old : Machine) → set ≡ with_plan_set fro
 machine_set from set old given is = set_machine from.parts set.parts from.waiting old (parts_set from set given) is
 
 -- the count of faults is the same where a plan was set, and where it was taken back
-armed_faults : (named : Bool) (meter : Meter) (plan : Plan) → (if named then record meter { plans = raised meter.plans; latest = plan; plan = plan; settings = raised meter.settings; is_idle = true } else record meter { plan = plan; settings = raised meter.settings; is_idle = true }).faults ≡ meter.faults
+armed_faults : (named : Bool) (meter : Meter) (plan : Plan) → (if named then record meter { plans = raised meter.plans; latest = plan; plan = plan; settings = raised meter.settings; is_idle = true; programs = 0 } else record meter { plan = plan; settings = raised meter.settings; is_idle = true; programs = 0 }).faults ≡ meter.faults
 armed_faults true meter plan = refl
 armed_faults false meter plan = refl
 

@@ -21,8 +21,8 @@ pub record CountsFailure (before now : ℕ) (IsFailed : Type 0) : Type 0 where
   pub rose : IsFailed → Rose before now
 
 -- What can be read off a memory's device: how often it failed and lost power, whether it has power now, how many plans that name a fault it
--- was given, the latest of them, the plan that is in force, which may name none, how often a plan was put in force, and whether no call came
--- to it with power since then.
+-- was given, the latest of them, the plan that is in force, which may name none, and how often a plan was put in force. And since then, or
+-- since it was made: whether no call came to it with power, and how many program calls did.
 pub record Meter : Type 0 where
   pub faults : ℕ
   pub cuts : ℕ
@@ -32,6 +32,7 @@ pub record Meter : Type 0 where
   pub plan : Plan
   pub settings : ℕ
   pub is_idle : Bool
+  pub programs : ℕ
 
 -- A call has its causes. It answered Failed where it met one fault, which was counted, and met none otherwise. It answered
 -- PowerLost where power was lost in it, once, which was counted, or was not there when it began; otherwise none was lost. No
@@ -60,5 +61,5 @@ names_fault plan = is_some plan.cut || is_some plan.fail || is_some plan.read_fa
 -- Nothing else changes.
 abbrev pub armed : Meter → Plan → Meter
 armed old plan =
-    if names_fault plan then record old { plans = raised old.plans; latest = plan; plan = plan; settings = raised old.settings; is_idle = true }
-    else record old { plan = plan; settings = raised old.settings; is_idle = true }
+    if names_fault plan then record old { plans = raised old.plans; latest = plan; plan = plan; settings = raised old.settings; is_idle = true; programs = 0 }
+    else record old { plan = plan; settings = raised old.settings; is_idle = true; programs = 0 }
