@@ -37,6 +37,7 @@ keeps_done first second value other keeps = record {
     plans_kept = keeps.cause.plans_kept;
     latest_kept = keeps.cause.latest_kept;
     plan_kept = keeps.cause.plan_kept;
+    settings_kept = keeps.cause.settings_kept;
   };
 }
 

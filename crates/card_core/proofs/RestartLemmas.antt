@@ -312,7 +312,7 @@ pub metered_same : (parts : CardParts) (meter : Meter) → card_of (record parts
 unfolding card_of
 metered_same parts meter = metered_when parts.is_due parts meter (held_by parts)
 
-powered_when : (names : Bool) (old : Meter) (plan : Plan) → (if names then record old { plans = raised old.plans; latest = plan; plan = plan } else record old { plan = plan }).powered ≡ old.powered
+powered_when : (names : Bool) (old : Meter) (plan : Plan) → (if names then record old { plans = raised old.plans; latest = plan; plan = plan; settings = raised old.settings; is_idle = true; programs = 0 } else record old { plan = plan; settings = raised old.settings; is_idle = true; programs = 0 }).powered ≡ old.powered
 powered_when true old plan = refl
 powered_when false old plan = refl
 

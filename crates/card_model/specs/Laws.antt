@@ -1,7 +1,7 @@
 -- What holds of every card, command and run.
 use Rattle.std.specs.Prelude.{◌≡◌, ◌≢◌, ◌⊎◌, ◌≤◌, ◌+◌, ℕ, Bool, true, false, List, [], ◌∷◌, ◌++◌, length, slice_index_or, count_by, Contains, All, Some, MatchBool, MatchResult, ⊤}
 use Rattle.uicc_types.specs.Told.{AreBytes}
-use Rattle.uicc_types.specs.Counts.{Meter, Caused, armed as plan_given}
+use Rattle.uicc_types.specs.Counts.{Meter, Caused, names_fault, armed as plan_given}
 use Rattle.uicc_types.specs.declared.answers.StatusWord.{StatusWord}
 use Rattle.uicc_types.specs.declared.answers.TheConstants.StatusWord.{DONE, END_OF_FILE, FILE_DEACTIVATED, MEMORY_PROBLEM, WRONG_LENGTH, NO_SUCH_CHANNEL, NO_SECURE_MESSAGING, WRONG_STRUCTURE, SECURITY_NOT_SATISFIED, PIN_BLOCKED, PIN_DISABLED, CONDITIONS_NOT_SATISFIED, NO_CURRENT_FILE, NO_FREE_CHANNEL, FILE_NOT_FOUND, RECORD_NOT_FOUND, WRONG_PARAMETERS, REFERENCE_NOT_FOUND, WRONG_OFFSET, NO_SUCH_INSTRUCTION, NO_SUCH_CLASS, OVERFLOW, WRONG_DATA, NO_ROOM, FILE_ALREADY_THERE}
 use Rattle.uicc_types.specs.declared.plans.Plan.{Plan}
@@ -48,11 +48,11 @@ CallsAreCounted =
     → Caused old new (count_by is_failure seen ≡ 1) (count_by is_cut seen ≡ 1)
     → IsCounted old new [] seen
 
--- A plan that was set, and taken back after what was done under it, is counted where it names a fault.
+-- A plan that names a fault was set, and taken back after what was done under it: that is counted.
 abbrev pub PlansAreCounted : Type 0
 PlansAreCounted =
     (old middle : Meter) (plan : Plan) (seen : List TraceItem)
-    → IsCounted (plan_given old plan) middle [] seen → IsCounted old (plan_given middle NONE) (due plan) seen
+    → names_fault plan ≡ true → IsCounted (plan_given old plan) middle [] seen → IsCounted old (plan_given middle NONE) (due plan) seen
 
 -- ---- planned faults
 

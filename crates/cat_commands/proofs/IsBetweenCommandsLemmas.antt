@@ -40,6 +40,7 @@ memory_stays value memory mounted =
         plans_kept = calm.plans_kept;
         latest_kept = calm.latest_kept;
         plan_kept = calm.plan_kept;
+        settings_kept = calm.settings_kept;
       };
     }
 

@@ -9,11 +9,10 @@ use Rattle.uicc_types.specs.declared.plans.FailAt.{FailAt}
 use Rattle.eeprom_model.specs.declared.device.EepromFault.{EepromFault}
 use Rattle.eeprom_model.specs.declared.device.EepromFault.TheVariants.{Failed, PowerLost}
 
--- what it holds, what it counts, how many calls of each kind came since its plan was set, and whether nothing was asked of it yet
+-- what it holds, what it counts, how many read calls came with power since its plan was set, and whether nothing was asked of it yet
 pub record Bench : Type 0 where
   pub bytes : List ℕ
   pub meter : Meter
-  pub programs : ℕ
   pub reads : ℕ
   pub is_fresh : Bool
 
@@ -59,11 +58,11 @@ programmed_under None None at bytes bench = done (holding at bytes bench)
 
 -- a program call of a device that has power, counted already
 abbrev pub programmed_now : ℕ → List ℕ → Bench → Outcome
-programmed_now at bytes bench = programmed_under (planned_for (λ cut. cut.call) bench.programs bench.meter.plan.cut) (planned_for (λ fail. fail.call) bench.programs bench.meter.plan.fail) at bytes bench
+programmed_now at bytes bench = programmed_under (planned_for (λ cut. cut.call) bench.meter.programs bench.meter.plan.cut) (planned_for (λ fail. fail.call) bench.meter.programs bench.meter.plan.fail) at bytes bench
 
 -- what a program call comes to: without power nothing is done
 unfoldable pub program_outcome : ℕ → List ℕ → Bench → Outcome
-program_outcome at bytes bench = if bench.meter.powered then programmed_now at bytes (record bench { programs = raised bench.programs; is_fresh = false }) else lost bench
+program_outcome at bytes bench = if bench.meter.powered then programmed_now at bytes (record bench { meter = record bench.meter { is_idle = false; programs = raised bench.meter.programs }; is_fresh = false }) else lost bench
 
 -- a read call fails where the plan names it
 abbrev pub read_under : Option ℕ → Bench → Outcome
@@ -72,11 +71,11 @@ read_under None bench = done bench
 
 -- what a read call comes to: without power nothing is done
 unfoldable pub read_outcome : Bench → Outcome
-read_outcome bench = if bench.meter.powered then read_under (planned_for (λ call. call) (raised bench.reads) bench.meter.plan.read_fail) (record bench { reads = raised bench.reads; is_fresh = false }) else lost bench
+read_outcome bench = if bench.meter.powered then read_under (planned_for (λ call. call) (raised bench.reads) bench.meter.plan.read_fail) (record bench { meter = record bench.meter { is_idle = false }; reads = raised bench.reads; is_fresh = false }) else lost bench
 
 -- a new plan, and no calls counted for it yet
 abbrev pub given_plan : Plan → Bench → Bench
-given_plan plan bench = record bench { meter = armed bench.meter plan; programs = 0; reads = 0; is_fresh = false }
+given_plan plan bench = record bench { meter = armed bench.meter plan; reads = 0; is_fresh = false }
 
 -- the plan of no fault
 abbrev pub no_plan : Plan
@@ -86,8 +85,7 @@ no_plan = record { cut = None; fail = None; read_fail = None }
 abbrev pub new_bench : ℕ → Bench
 new_bench size = record {
   bytes = replicate size 255;
-  meter = record { faults = 0; cuts = 0; powered = true; plans = 0; latest = no_plan; plan = no_plan };
-  programs = 0;
+  meter = record { faults = 0; cuts = 0; powered = true; plans = 0; latest = no_plan; plan = no_plan; settings = 0; is_idle = true; programs = 0 };
   reads = 0;
   is_fresh = true;
 }

@@ -22,6 +22,8 @@ pub struct FileEeprom {
     plans: u64,
     latest: Plan,
     plan: Plan,
+    settings: u64,
+    is_idle: bool,
     programs: u64,
     reads: u64,
     is_fresh: bool,
@@ -36,8 +38,7 @@ impl Model for FileEeprom {
     ghost view = { λ device. record {
       has_file = is_some device.file;
       size = device.size;
-      meter = record { faults = device.faults; cuts = device.cuts; powered = device.powered; plans = device.plans; latest = device.latest; plan = device.plan };
-      programs = device.programs;
+      meter = record { faults = device.faults; cuts = device.cuts; powered = device.powered; plans = device.plans; latest = device.latest; plan = device.plan; settings = device.settings; is_idle = device.is_idle; programs = device.programs };
       reads = device.reads;
       is_fresh = device.is_fresh;
     } };
@@ -60,6 +61,8 @@ impl FileEeprom {
             plans: 0,
             latest: Plan::NONE,
             plan: Plan::NONE,
+            settings: 0,
+            is_idle: true,
             programs: 0,
             reads: 0,
             is_fresh: true,
@@ -155,6 +158,7 @@ impl FileEeprom {
 
 impl Eeprom for FileEeprom {
     ghost use Rattle.std.specs.Prelude.{◌≡◌, ◌≢◌, ◌+◌, ◌≤◌, ◌⊎◌, ◌↔◌, None, true, false, length};
+    ghost use Rattle.uicc_types.specs.Counts.{raised};
     ghost use Rattle.eeprom_model.specs.Faults.{HasCause};
     ghost use Rattle.eeprom_model.specs.Ranges.{IsPageWrite};
     ghost use Rattle.eeprom_model.specs.Adapter.{after_read, after_program, left_by, fails_to_read, is_cut_off, fails_to_program, given_plan};
@@ -179,7 +183,9 @@ impl Eeprom for FileEeprom {
         ensures cause { HasCause self.old.meter self.new.meter result }
         ensures off { self.old.meter.powered ≡ false →
             (result ≡ Err EepromFault.PowerLost) × (self.new ≡ self.old) }
-        ensures used { self.old.meter.powered ≡ true → self.new.is_fresh ≡ false }
+        ensures used { self.old.meter.powered ≡ true →
+            (self.new.is_fresh ≡ false) × (self.new.meter.is_idle ≡ false) }
+        ensures calls { self.new.meter.programs ≡ self.old.meter.programs }
         ensures left { self.old.meter.powered ≡ true → self.new ≡ left_by result (after_read self.old) }
         ensures never_cut { self.old.meter.powered ≡ true → result ≢ Err EepromFault.PowerLost }
         ensures fails { self.old.meter.powered ≡ true
@@ -190,6 +196,7 @@ impl Eeprom for FileEeprom {
             return Err(EepromFault::PowerLost);
         }
         self.is_fresh = false;
+        self.is_idle = false;
         self.reads = self.reads.saturating_add(1);
         if is_planned(self.plan.read_fail, self.reads) {
             return self.failed();
@@ -204,7 +211,9 @@ impl Eeprom for FileEeprom {
         ensures cause { HasCause self.old.meter self.new.meter result }
         ensures off { self.old.meter.powered ≡ false →
             (result ≡ Err EepromFault.PowerLost) × (self.new ≡ self.old) }
-        ensures used { self.old.meter.powered ≡ true → self.new.is_fresh ≡ false }
+        ensures used { self.old.meter.powered ≡ true →
+            (self.new.is_fresh ≡ false) × (self.new.meter.is_idle ≡ false) }
+        ensures calls { self.old.meter.powered ≡ true → self.new.meter.programs ≡ raised self.old.meter.programs }
         ensures left { self.old.meter.powered ≡ true → self.new ≡ left_by result (after_program self.old) }
         ensures cut { self.old.meter.powered ≡ true → (result ≡ Err EepromFault.PowerLost) ↔
             (is_cut_off (after_program self.old) ≡ true) }
@@ -216,6 +225,7 @@ impl Eeprom for FileEeprom {
             return Err(EepromFault::PowerLost);
         }
         self.is_fresh = false;
+        self.is_idle = false;
         self.programs = self.programs.saturating_add(1);
         if let Some(cut) = self.plan.cut
             && is_planned(Some(cut.call), self.programs)
@@ -247,6 +257,8 @@ impl Eeprom for FileEeprom {
             self.latest = plan;
         }
         self.plan = plan;
+        self.settings = self.settings.saturating_add(1);
+        self.is_idle = true;
         self.programs = 0;
         self.reads = 0;
         self.is_fresh = false;

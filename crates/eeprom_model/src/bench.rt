@@ -1,6 +1,7 @@
 //! A device of the bench: a vector in which faults are planned.
 ghost use Rattle.std.specs.Prelude.{◌≡◌, refl, ◌+◌, ◌≤◌, IsTrue, Some, true, false, length, replicate, option_map, slice_range, IfOk, IfSome, OnOk, OnErr, IsErrOf};
 ghost use Rattle.list_laws.specs.Patches.{patched, Torn};
+ghost use Rattle.uicc_types.specs.Counts.{raised};
 ghost use Rattle.uicc_types.specs.Told.{Becomes};
 ghost use Rattle.eeprom_model.specs.Faults.{HasCause};
 ghost use Rattle.eeprom_model.specs.Ranges.{IsPageWrite};
@@ -21,6 +22,8 @@ pub struct BenchEeprom {
     plans: u64,
     latest: Plan,
     plan: Plan,
+    settings: u64,
+    is_idle: bool,
     programs: u64,
     reads: u64,
     is_fresh: bool,
@@ -34,8 +37,7 @@ impl Model for BenchEeprom {
 
     ghost view = { λ bench. record {
       bytes = bench.bytes.items;
-      meter = record { faults = bench.faults; cuts = bench.cuts; powered = bench.powered; plans = bench.plans; latest = bench.latest; plan = bench.plan };
-      programs = bench.programs;
+      meter = record { faults = bench.faults; cuts = bench.cuts; powered = bench.powered; plans = bench.plans; latest = bench.latest; plan = bench.plan; settings = bench.settings; is_idle = bench.is_idle; programs = bench.programs };
       reads = bench.reads;
       is_fresh = bench.is_fresh;
     } };
@@ -55,6 +57,8 @@ impl BenchEeprom {
                 plans: 0,
                 latest: Plan::NONE,
                 plan: Plan::NONE,
+                settings: 0,
+                is_idle: true,
                 programs: 0,
                 reads: 0,
                 is_fresh: true,
@@ -139,13 +143,16 @@ impl Eeprom for BenchEeprom {
         ensures cause { HasCause self.old.meter self.new.meter result }
         ensures off { self.old.meter.powered ≡ false →
             (result ≡ Err EepromFault.PowerLost) × (self.new ≡ self.old) }
-        ensures used { self.old.meter.powered ≡ true → self.new.is_fresh ≡ false }
+        ensures used { self.old.meter.powered ≡ true →
+            (self.new.is_fresh ≡ false) × (self.new.meter.is_idle ≡ false) }
+        ensures calls { self.new.meter.programs ≡ self.old.meter.programs }
         ensures outcome { read_outcome self.old ≡ record { answer = result; left = self.new } }
     {
         if !self.powered {
             return Err(EepromFault::PowerLost);
         }
         self.is_fresh = false;
+        self.is_idle = false;
         self.reads = self.reads.saturating_add(1);
         if planned_read_failure(&self.plan, self.reads).is_some() {
             self.faults = self.faults.saturating_add(1);
@@ -164,13 +171,16 @@ impl Eeprom for BenchEeprom {
         ensures cause { HasCause self.old.meter self.new.meter result }
         ensures off { self.old.meter.powered ≡ false →
             (result ≡ Err EepromFault.PowerLost) × (self.new ≡ self.old) }
-        ensures used { self.old.meter.powered ≡ true → self.new.is_fresh ≡ false }
+        ensures used { self.old.meter.powered ≡ true →
+            (self.new.is_fresh ≡ false) × (self.new.meter.is_idle ≡ false) }
+        ensures calls { self.old.meter.powered ≡ true → self.new.meter.programs ≡ raised self.old.meter.programs }
         ensures outcome { program_outcome at bytes.now self.old ≡ record { answer = result; left = self.new } }
     {
         if !self.powered {
             return Err(EepromFault::PowerLost);
         }
         self.is_fresh = false;
+        self.is_idle = false;
         self.programs = self.programs.saturating_add(1);
         if let Some(cut) = planned_cut(&self.plan, self.programs) {
             overwrite_in_part(&mut self.bytes, at, bytes, cut);
@@ -201,6 +211,8 @@ impl Eeprom for BenchEeprom {
             self.latest = plan;
         }
         self.plan = plan;
+        self.settings = self.settings.saturating_add(1);
+        self.is_idle = true;
         self.programs = 0;
         self.reads = 0;
         self.is_fresh = false;

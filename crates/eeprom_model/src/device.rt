@@ -1,7 +1,7 @@
 //! What is asked of an EEPROM, and what can go wrong in it.
 ghost use Rattle.std.specs.Prelude.{◌≡◌, ◌+◌, ◌≤◌, ℕ, Bool, List, Option, false, true, length, option_map, slice_range, IfSome, OnOk, OnErr};
 ghost use Rattle.list_laws.specs.Patches.{patched, Torn};
-ghost use Rattle.uicc_types.specs.Counts.{Meter, armed};
+ghost use Rattle.uicc_types.specs.Counts.{Meter, armed, raised};
 ghost use Rattle.uicc_types.specs.Told.{AreBytes, Becomes};
 ghost use Rattle.eeprom_model.specs.Faults.{HasCause};
 ghost use Rattle.eeprom_model.specs.Ranges.{IsPageWrite};
@@ -28,7 +28,7 @@ pub trait Eeprom {
     /// The bytes that it holds, where it tells them.
     ghost contents: { Self → Option (List ℕ) };
 
-    /// Its counts of failures and losses of power, whether it has power, and what it knows of plans.
+    /// Its counts of failures and losses of power, whether it has power, and what it knows of plans and of the calls since one was set.
     ghost meter: { Self → Meter };
 
     /// No byte of it was read or written, and no plan was set, since it was made.
@@ -50,7 +50,9 @@ pub trait Eeprom {
         ensures cause { HasCause (meter self.old) (meter self.new) result }
         ensures off { (meter self.old).powered ≡ false →
             (result ≡ Err EepromFault.PowerLost) × (meter self.new ≡ meter self.old) }
-        ensures used { (meter self.old).powered ≡ true → is_fresh self.new ≡ false };
+        ensures used { (meter self.old).powered ≡ true →
+            (is_fresh self.new ≡ false) × ((meter self.new).is_idle ≡ false) }
+        ensures calls { (meter self.new).programs ≡ (meter self.old).programs };
 
     /// Writes bytes into one page, at least one. After a fault their range holds any bytes, unless there was no power.
     fn program(&mut self, at: usize, bytes: &[u8]) -> Result<(), EepromFault>
@@ -64,7 +66,9 @@ pub trait Eeprom {
         ensures off { (meter self.old).powered ≡ false →
             (result ≡ Err EepromFault.PowerLost) × (meter self.new ≡ meter self.old)
             × (contents self.new ≡ contents self.old) }
-        ensures used { (meter self.old).powered ≡ true → is_fresh self.new ≡ false };
+        ensures used { (meter self.old).powered ≡ true →
+            (is_fresh self.new ≡ false) × ((meter self.new).is_idle ≡ false) }
+        ensures calls { (meter self.old).powered ≡ true → (meter self.new).programs ≡ raised (meter self.old).programs };
 
     /// Gives it power.
     fn power_up(&mut self)
@@ -73,7 +77,8 @@ pub trait Eeprom {
         ensures size { byte_count self.new ≡ byte_count self.old }
         ensures fresh { is_fresh self.new ≡ is_fresh self.old };
 
-    /// Sets the plan of faults and its counters of calls to zero.
+    /// Sets the plan of faults and its counters of calls to zero. The clause has the count of program calls; that of read calls is the
+    /// device's own.
     fn arm(&mut self, plan: Plan)
         ensures plan { meter self.new ≡ armed (meter self.old) plan }
         ensures contents { contents self.new ≡ contents self.old }

@@ -39,6 +39,7 @@ caused_so old new failed failed' lost lost' c = record {
   plans_kept = c.plans_kept;
   latest_kept = c.latest_kept;
   plan_kept = c.plan_kept;
+  settings_kept = c.settings_kept;
 }
 
 calm_cause : {T : Type 0} (old new : Meter) (value : T) → IsCalm old new → HasCause old new (Ok value)

@@ -30,12 +30,11 @@ table_of Nothing = loaded first_entries
 table_of Blank = loaded first_entries
 table_of (Mapped kept) = kept
 
--- the device, what is known of the map, how many program calls were made of the device, how many commits were answered with Ok, how many
--- reads and recoveries were asked for, and whether the journal below takes no recovery to be due
+-- the device, what is known of the map, how many commits were answered with Ok, how many reads and recoveries were asked for, and whether the
+-- journal below takes no recovery to be due
 pub record Paged (E : Type 0) : Type 0 where
   pub device : E
   pub known : Known
-  pub programs : ℕ
   pub commits : ℕ
   pub reads : ℕ
   pub recoveries : ℕ

@@ -12,7 +12,8 @@ use eeprom_model::Eeprom;
 use store_form::{Store, StoreFault, Writes};
 use update_journal::Journal;
 
-/// A store that counts the program calls that it makes of its device. Its calls are those of a store.
+/// A store whose device counts the program calls that come to it with power, in 64 bits; at its end the count stands still. Its calls are
+/// those of a store.
 pub trait CountedStore {
     ghost use Rattle.store_form.specs.declared.store.TheConstants.{OWN_START, OWN_END};
     ghost use Rattle.update_journal.specs.declared.steps.TheConstants.{MOST_TO_RECOVER};
@@ -35,9 +36,6 @@ pub trait CountedStore {
     /// No recovery is due.
     ghost recovered: { Self → Bool };
 
-    /// How many program calls it made, in 64 bits; at its end the count stands still.
-    ghost programs: { Self → ℕ };
-
     /// The bytes of its device, where that tells them.
     ghost image: { Self → Option (List ℕ) };
 
@@ -50,7 +48,7 @@ pub trait CountedStore {
         ensures keeps { HoldsTheSame byte_count store_mark stable commits self.old self.new }
         ensures ready { OnOk result (recovered self.new ≡ true) }
         ensures due { OnErr result (recovered self.new ≡ false) }
-        ensures calls { programs self.new ≡ programs self.old }
+        ensures calls { (meter self.new).programs ≡ (meter self.old).programs }
         ensures cause { HasCause (meter self.old) (meter self.new) result }
         ensures off { (meter self.old).powered ≡ false →
             (result ≡ Err StoreFault.PowerLost) × (meter self.new ≡ meter self.old)
@@ -65,7 +63,7 @@ pub trait CountedStore {
         ensures keeps { StaysItself byte_count store_mark stable self.old self.new }
         ensures ready { OnOk result (recovered self.new ≡ true) }
         ensures due { OnErr result (recovered self.new ≡ false) }
-        ensures calls { MakesCalls (calls_to_commit writes.now) (programs self.old) (programs self.new) result }
+        ensures calls { MakesCalls (calls_to_commit writes.now) (meter self.old).programs (meter self.new).programs result }
         ensures cause { HasCause (meter self.old) (meter self.new) result }
         ensures off { (meter self.old).powered ≡ false →
             (result ≡ Err StoreFault.PowerLost) × (meter self.new ≡ meter self.old)
@@ -79,7 +77,7 @@ pub trait CountedStore {
         ensures keeps { StaysItself byte_count store_mark stable self.old self.new }
         ensures ready { OnOk result (recovered self.new ≡ true) }
         ensures due { OnErr result (recovered self.new ≡ false) }
-        ensures calls { MakesCalls (calls_at at (length bytes.now)) (programs self.old) (programs self.new) result }
+        ensures calls { MakesCalls (calls_at at (length bytes.now)) (meter self.old).programs (meter self.new).programs result }
         ensures cause { HasCause (meter self.old) (meter self.new) result }
         ensures off { (meter self.old).powered ≡ false →
             (result ≡ Err StoreFault.PowerLost) × (meter self.new ≡ meter self.old)
@@ -91,8 +89,8 @@ pub trait CountedStore {
         ensures ready { OnOk result (recovered self.new ≡ true) }
         ensures due { OnErr result (recovered self.new ≡ false) }
         ensures calls { IfSome (image self.old)
-            (λ bytes. MakesCalls (calls_to_recover bytes) (programs self.old) (programs self.new) result) }
-        ensures few_calls { MadeAtMost MOST_TO_RECOVER (programs self.old) (programs self.new) }
+            (λ bytes. MakesCalls (calls_to_recover bytes) (meter self.old).programs (meter self.new).programs result) }
+        ensures few_calls { MadeAtMost MOST_TO_RECOVER (meter self.old).programs (meter self.new).programs }
         ensures cause { HasCause (meter self.old) (meter self.new) result }
         ensures off { (meter self.old).powered ≡ false →
             (result ≡ Err StoreFault.PowerLost) × (meter self.new ≡ meter self.old)
@@ -119,8 +117,6 @@ impl<E: Eeprom> CountedStore for Journal<E> {
     ghost commits = { λ journal. journal.commits };
 
     ghost recovered = { λ journal. is_recovered journal.is_ready (E.contents journal.device) };
-
-    ghost programs = { λ journal. journal.programs };
 
     ghost image = { λ journal. E.contents journal.device };
 

@@ -43,7 +43,7 @@ fn fill_pages<S: CountedStore>(store: &mut S) -> Result<(), StoreFault>
     ensures same { content (S.stable store.new) ≡ content (S.stable store.old) }
     ensures blank { OnOk result (IfSome (S.stable store.new) IsBlank) }
     ensures keeps { KeepsBelow S.CountedStore store.old store.new result }
-    ensures calls { MakesCalls (calls_to_blank) (S.programs store.old) (S.programs store.new) result }
+    ensures calls { MakesCalls (calls_to_blank) (S.meter store.old).programs (S.meter store.new).programs result }
 {
     let blank = [0xFF; PAGE_LENGTH];
     store.prepare(0, &blank)?;
@@ -62,7 +62,7 @@ pub fn fill<S: CountedStore>(store: &mut S) -> Result<Table, StoreFault>
     ensures kept { IfOk result (λ table. IsKept table (S.stable store.new)) }
     ensures first { IfOk result (λ table. table ≡ loaded first_entries) }
     ensures keeps { KeepsBelow S.CountedStore store.old store.new result }
-    ensures calls { MakesCalls (calls_to_fill) (S.programs store.old) (S.programs store.new) result }
+    ensures calls { MakesCalls (calls_to_fill) (S.meter store.old).programs (S.meter store.new).programs result }
 {
     fill_pages(store)?;
     let bytes = first_map();

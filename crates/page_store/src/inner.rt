@@ -79,7 +79,7 @@ pub fn commit<S: CountedStore>(
     ensures moved { OnOk result (table.new ≡ moved_below writes.now PAGES table.old) }
     ensures kept { OnOk result (IsKept table.new (S.stable store.new)) }
     ensures keeps { KeepsBelow S.CountedStore store.old store.new result }
-    ensures calls { MakesCalls (calls_to_move writes.now table.old) (S.programs store.old) (S.programs store.new) result }
+    ensures calls { MakesCalls (calls_to_move writes.now table.old) (S.meter store.old).programs (S.meter store.new).programs result }
 {
     move_pages(store, table, writes)?;
     let inner = inner_writes(table, writes);

@@ -29,7 +29,7 @@ fn move_page<S: CountedStore>(
     ensures pool { IsPool table.new }
     ensures moved { OnOk result (table.new ≡ moved page table.old) }
     ensures keeps { KeepsBelow S.CountedStore store.old store.new result }
-    ensures calls { MakesCalls (1) (S.programs store.old) (S.programs store.new) result }
+    ensures calls { MakesCalls (1) (S.meter store.old).programs (S.meter store.new).programs result }
 {
     let mut bytes = [0u8; PAGE_LENGTH];
     store.read(table.place(PAGE_LENGTH * page), &mut bytes)?;
@@ -53,7 +53,7 @@ fn move_touched<S: CountedStore>(
     ensures moved { OnOk result
         (table.new ≡ (if is_touched writes.now page then moved page table.old else table.old)) }
     ensures keeps { KeepsBelow S.CountedStore store.old store.new result }
-    ensures calls { MakesCalls (if is_touched writes.now page then 1 else 0) (S.programs store.old) (S.programs store.new) result }
+    ensures calls { MakesCalls (if is_touched writes.now page then 1 else 0) (S.meter store.old).programs (S.meter store.new).programs result }
 {
     if !is_touched(writes, page) {
         return Ok(());
@@ -74,7 +74,7 @@ pub fn move_pages<S: CountedStore>(
     ensures same { OnErr result (content (S.stable store.new) ≡ content (S.stable store.old)) }
     ensures moved { OnOk result (table.new ≡ moved_below writes.now PAGES table.old) }
     ensures keeps { KeepsBelow S.CountedStore store.old store.new result }
-    ensures calls { MakesCalls (done_count writes.now PAGES) (S.programs store.old) (S.programs store.new) result }
+    ensures calls { MakesCalls (done_count writes.now PAGES) (S.meter store.old).programs (S.meter store.new).programs result }
 {
     for page in FIRST_MAPPED..PAGES {
         move_touched(store, table, writes, page)?;

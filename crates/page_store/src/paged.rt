@@ -51,8 +51,8 @@ pub fn recover<S: CountedStore>(store: &mut S, known: &mut Known) -> Result<(), 
         (result ≡ Err StoreFault.PowerLost) × (S.meter store.new ≡ S.meter store.old)
         × (S.recovered store.new ≡ S.recovered store.old) × (known.new ≡ known.old) × (S.image store.new ≡ S.image store.old) }
     ensures calls { IfSome (S.image store.old)
-        (λ bytes. MakesCalls (calls_to_recover bytes) (S.programs store.old) (S.programs store.new) result) }
-    ensures few_calls { MadeAtMost MOST_TO_RECOVER (S.programs store.old) (S.programs store.new) }
+        (λ bytes. MakesCalls (calls_to_recover bytes) (S.meter store.old).programs (S.meter store.new).programs result) }
+    ensures few_calls { MadeAtMost MOST_TO_RECOVER (S.meter store.old).programs (S.meter store.new).programs }
 {
     store.recover()?;
     let mut bytes = [0; MAP_END - MAP];
@@ -78,7 +78,7 @@ pub fn read<S: CountedStore>(
     ensures off { (S.meter store.old).powered ≡ false →
         (result ≡ Err StoreFault.PowerLost) × (S.meter store.new ≡ S.meter store.old)
         × (S.recovered store.new ≡ S.recovered store.old) × (S.image store.new ≡ S.image store.old) }
-    ensures calls { S.programs store.new ≡ S.programs store.old }
+    ensures calls { (S.meter store.new).programs ≡ (S.meter store.old).programs }
 {
     store.read(0, &mut [])?;
     match known {
@@ -100,7 +100,7 @@ fn take_table<S: CountedStore>(store: &mut S, known: &mut Known) -> Result<Table
     ensures table { IfOk result (λ table. table ≡ table_of known.old) }
     ensures nothing { known.new ≡ Known.Nothing }
     ensures keeps { KeepsBelow S.CountedStore store.old store.new result }
-    ensures calls { MakesCalls (calls_to_begin known.old) (S.programs store.old) (S.programs store.new) result }
+    ensures calls { MakesCalls (calls_to_begin known.old) (S.meter store.old).programs (S.meter store.new).programs result }
 {
     match mem::replace(known, Known::Nothing) {
         Known::Mapped(table) => Ok(table),
@@ -127,7 +127,7 @@ pub fn commit<S: CountedStore>(
         (result ≡ Err StoreFault.PowerLost) × (S.meter store.new ≡ S.meter store.old)
         × (S.stable store.new ≡ S.stable store.old) × (S.recovered store.new ≡ S.recovered store.old)
         × (known.new ≡ known.old) × (S.image store.new ≡ S.image store.old) }
-    ensures calls { MakesCalls (calls_to_write known.old writes.now) (S.programs store.old) (S.programs store.new) result }
+    ensures calls { MakesCalls (calls_to_write known.old writes.now) (S.meter store.old).programs (S.meter store.new).programs result }
 {
     store.read(0, &mut [])?;
     let mut table = take_table(store, known)?;
@@ -154,7 +154,7 @@ pub fn prepare<S: CountedStore>(
         (result ≡ Err StoreFault.PowerLost) × (S.meter store.new ≡ S.meter store.old)
         × (S.stable store.new ≡ S.stable store.old) × (S.recovered store.new ≡ S.recovered store.old)
         × (known.new ≡ known.old) × (S.image store.new ≡ S.image store.old) }
-    ensures calls { MakesCalls (calls_to_begin known.old + calls_at at (length bytes.now)) (S.programs store.old) (S.programs store.new) result }
+    ensures calls { MakesCalls (calls_to_begin known.old + calls_at at (length bytes.now)) (S.meter store.old).programs (S.meter store.new).programs result }
 {
     store.read(0, &mut [])?;
     let table = take_table(store, known)?;

@@ -26,7 +26,7 @@ fn read_part<S: CountedStore>(
         (λ held. out.new ≡ slice_range held at (at + length out.old))) }
     ensures stable { S.stable store.new ≡ S.stable store.old }
     ensures keeps { KeepsBelow S.CountedStore store.old store.new result }
-    ensures calls { S.programs store.new ≡ S.programs store.old }
+    ensures calls { (S.meter store.new).programs ≡ (S.meter store.old).programs }
 {
     store.read(table.place(at), out)
 }
@@ -45,7 +45,7 @@ pub fn read<S: CountedStore>(
         (λ held. out.new ≡ slice_range held at (at + length out.old))) }
     ensures stable { S.stable store.new ≡ S.stable store.old }
     ensures keeps { KeepsBelow S.CountedStore store.old store.new result }
-    ensures calls { S.programs store.new ≡ S.programs store.old }
+    ensures calls { (S.meter store.new).programs ≡ (S.meter store.old).programs }
 {
     let mut done = 0;
     while done < out.len() {
@@ -70,7 +70,7 @@ fn prepare_part<S: CountedStore>(
     ensures writes { WritesRange at bytes.now (content (S.stable store.old)) (content (S.stable store.new)) result }
     ensures kept { OnOk result (IsKept table.now (S.stable store.new)) }
     ensures keeps { KeepsBelow S.CountedStore store.old store.new result }
-    ensures calls { MakesCalls (1) (S.programs store.old) (S.programs store.new) result }
+    ensures calls { MakesCalls (1) (S.meter store.old).programs (S.meter store.new).programs result }
 {
     store.prepare(table.place(at), bytes)
 }
@@ -88,7 +88,7 @@ pub fn prepare<S: CountedStore>(
     ensures writes { WritesRange at bytes.now (content (S.stable store.old)) (content (S.stable store.new)) result }
     ensures kept { OnOk result (IsKept table.now (S.stable store.new)) }
     ensures keeps { KeepsBelow S.CountedStore store.old store.new result }
-    ensures calls { MakesCalls (calls_at at (length bytes.now)) (S.programs store.old) (S.programs store.new) result }
+    ensures calls { MakesCalls (calls_at at (length bytes.now)) (S.meter store.old).programs (S.meter store.new).programs result }
 {
     let mut done = 0;
     while done < bytes.len() {

@@ -23,8 +23,8 @@ use uicc_types::Plan;
 use update_journal::Journal;
 
 /// A store of 65,536 bytes on a device of 71,680, over a journal in its first pages. What a contract sees of it is its
-/// device, what it knows of the map, the counts of the program calls that it made, of its commits, and of the reads and recoveries that
-/// were asked of it, and whether the journal takes no recovery to be due.
+/// device, what it knows of the map, the counts of its commits, and of the reads and recoveries that were asked of it, and whether
+/// the journal takes no recovery to be due.
 #[derive(Debug, Drop)]
 pub struct PageStore<E: Eeprom> {
     journal: Journal<E>,
@@ -43,7 +43,6 @@ impl<E: Eeprom> Model for PageStore<E> {
     ghost view = { λ store. record {
       device = store.journal.device;
       known = store.known;
-      programs = store.journal.programs;
       commits = store.commits;
       reads = store.reads;
       recoveries = store.recoveries;
@@ -58,7 +57,7 @@ impl<E: Eeprom> PageStore<E> {
     /// A store on this device of 71,680 bytes. A recovery is due.
     pub fn new(eeprom: E) -> PageStore<E>
         requires { E.byte_count eeprom ≡ DEVICE_SIZE }
-        ensures { result ≡ record { device = eeprom; known = Known.Nothing; programs = 0; commits = 0; reads = 0; recoveries = 0; is_ready = false } }
+        ensures { result ≡ record { device = eeprom; known = Known.Nothing; commits = 0; reads = 0; recoveries = 0; is_ready = false } }
     {
         PageStore {
             journal: Journal::new(eeprom),
@@ -125,7 +124,7 @@ impl<E: Eeprom> Store for PageStore<E> {
         // After a fault a recovery is due.
         ensures due { OnErr result (is_recovered self.new.known self.new.is_ready (E.contents self.new.device) ≡ false) }
         // Nothing is programmed, and no page moves.
-        ensures calls { self.new.programs ≡ self.old.programs }
+        ensures calls { (E.meter self.new.device).programs ≡ (E.meter self.old.device).programs }
         ensures pages { self.new.known ≡ self.old.known }
     {
         self.reads = self.reads.saturating_add(1);
@@ -148,7 +147,7 @@ impl<E: Eeprom> Store for PageStore<E> {
         // After a fault a recovery is due.
         ensures due { OnErr result (is_recovered self.new.known self.new.is_ready (E.contents self.new.device) ≡ false) }
         // A call for each page that is touched, and those of one commit below; where there was no map, those that make one before.
-        ensures calls { MakesCalls (calls_to_write self.old.known writes.now) self.old.programs self.new.programs result }
+        ensures calls { MakesCalls (calls_to_write self.old.known writes.now) (E.meter self.old.device).programs (E.meter self.new.device).programs result }
         // Each page that is touched lies where it has been free longest, the lowest first. The one that it lay in has been free
         // shortest then.
         ensures pages { OnOk result (self.new.known ≡ Known.Mapped (moved_below writes.now PAGES (table_of self.old.known))) }
@@ -176,7 +175,7 @@ impl<E: Eeprom> Store for PageStore<E> {
         // After a fault a recovery is due.
         ensures due { OnErr result (is_recovered self.new.known self.new.is_ready (E.contents self.new.device) ≡ false) }
         // A call for each page of the range; where there was no map, those that make one before.
-        ensures calls { MakesCalls (calls_to_begin self.old.known + calls_at at (length bytes.now)) self.old.programs self.new.programs result }
+        ensures calls { MakesCalls (calls_to_begin self.old.known + calls_at at (length bytes.now)) (E.meter self.old.device).programs (E.meter self.new.device).programs result }
         // No page moves.
         ensures pages { OnOk result (self.new.known ≡ Known.Mapped (table_of self.old.known)) }
     {
@@ -196,8 +195,8 @@ impl<E: Eeprom> Store for PageStore<E> {
         ensures due { OnErr result (is_recovered self.new.known self.new.is_ready (E.contents self.new.device) ≡ false) }
         // Those of a recovery of the journal, at most 18, also where the device tells nothing.
         ensures calls { IfSome (E.contents self.old.device)
-            (λ image. MakesCalls (calls_to_recover image) self.old.programs self.new.programs result) }
-        ensures few_calls { MadeAtMost MOST_TO_RECOVER self.old.programs self.new.programs }
+            (λ image. MakesCalls (calls_to_recover image) (E.meter self.old.device).programs (E.meter self.new.device).programs result) }
+        ensures few_calls { MadeAtMost MOST_TO_RECOVER (E.meter self.old.device).programs (E.meter self.new.device).programs }
         // The map that is known is that of the device, and the free pages stand in ascending order.
         ensures pages { OnOk result (IfSome (stable (E.contents self.new.device)) (λ image. self.new.known ≡ known_of (map_of image))) }
     {
@@ -206,24 +205,24 @@ impl<E: Eeprom> Store for PageStore<E> {
     }
 
     fn power_up(&mut self)
+        // Nothing is programmed: the count of program calls stays too.
         ensures power { E.meter self.new.device ≡ record (E.meter self.old.device) { powered = true } }
         ensures keeps { HoldsTheSame (λ _. CONTENT_SIZE) (λ _. 1) (λ store. content (stable (E.contents store.device))) (λ store. store.commits) self.old self.new }
         ensures asked { IsAsked (λ store. store.reads) (λ store. store.recoveries) self.old self.new 0 0 }
         ensures ready { is_recovered self.new.known self.new.is_ready (E.contents self.new.device) ≡ is_recovered self.old.known self.old.is_ready (E.contents self.old.device) }
-        // Nothing is programmed, and no page moves.
-        ensures calls { self.new.programs ≡ self.old.programs }
+        // No page moves.
         ensures pages { self.new.known ≡ self.old.known }
     {
         self.journal.power_up();
     }
 
     fn arm(&mut self, plan: Plan)
+        // Program calls are counted from 0 again.
         ensures plan { E.meter self.new.device ≡ armed (E.meter self.old.device) plan }
         ensures keeps { HoldsTheSame (λ _. CONTENT_SIZE) (λ _. 1) (λ store. content (stable (E.contents store.device))) (λ store. store.commits) self.old self.new }
         ensures asked { IsAsked (λ store. store.reads) (λ store. store.recoveries) self.old self.new 0 0 }
         ensures ready { is_recovered self.new.known self.new.is_ready (E.contents self.new.device) ≡ is_recovered self.old.known self.old.is_ready (E.contents self.old.device) }
-        // Nothing is programmed, and no page moves.
-        ensures calls { self.new.programs ≡ self.old.programs }
+        // No page moves.
         ensures pages { self.new.known ≡ self.old.known }
     {
         self.journal.arm(plan);

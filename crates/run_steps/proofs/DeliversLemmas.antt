@@ -63,7 +63,7 @@ unprepared kept tpdu end alone = by_way (transfer_in tpdu) alone where
 
 -- a command without power counts nothing
 pub off_counted : (m : Meter) → IsCounted m m [] [] → IsCounted m m [] (item.Off ∷ [])
-off_counted m counted = record { failures = counted.failures; cuts = counted.cuts; plans = counted.plans; latest = counted.latest; no_plan = counted.no_plan }
+off_counted m counted = record { failures = counted.failures; cuts = counted.cuts; plans = counted.plans; latest = counted.latest; in_force = counted.in_force; settings = counted.settings }
 
 -- a plan was set, a command was sent, and the plan was taken back
 command_counted : PlansAreCounted → (from mid sent to : Meter) (waiting : Plan) (apdu : List ℕ) (shown : TraceItem) → mid ≡ planned from waiting → to ≡ unplanned (names_fault waiting) sent → IsCounted mid sent [] (shown ∷ []) → IsCounted from to (due waiting ++ []) (item.Command apdu ∷ shown ∷ [])

@@ -210,5 +210,6 @@ counted_over old new plans shown other fails cuts counted = record {
   cuts = counted.cuts ∙ ap (λ (times : ℕ). raised_by times old.cuts) (cuts_of_one shown ∙ sym cuts ∙ sym (cuts_of_one other));
   plans = counted.plans;
   latest = counted.latest;
-  no_plan = counted.no_plan;
+  in_force = counted.in_force;
+  settings = counted.settings;
 }

@@ -116,6 +116,7 @@ caused_as old new caused fails failed loses lost = record {
   plans_kept = caused.plans_kept;
   latest_kept = caused.latest_kept;
   plan_kept = caused.plan_kept;
+  settings_kept = caused.settings_kept;
 }
 
 -- ---- a reset

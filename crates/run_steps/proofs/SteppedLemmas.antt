@@ -135,5 +135,6 @@ counted_alike old new plans items other alike counted = record {
   cuts = counted.cuts ∙ ap (λ (times : ℕ). raised_by times old.cuts) (count_alike is_cut bare_cut items other alike);
   plans = counted.plans;
   latest = counted.latest;
-  no_plan = counted.no_plan;
+  in_force = counted.in_force;
+  settings = counted.settings;
 }

@@ -80,7 +80,7 @@ none_due waiting none = ap (λ named. if named then waiting ∷ [] else []) none
 
 counted_by : PlansAreCounted → (from sent : Meter) (waiting : Plan) (shown : List TraceItem) (named : Bool) → names_fault waiting ≡ named
     → IsCounted (if named then plan_given from waiting else from) sent [] shown → IsCounted from (if named then plan_given sent NONE else sent) (due waiting) shown
-counted_by plans from sent waiting shown true is counted = plans from sent waiting shown counted
+counted_by plans from sent waiting shown true is counted = plans from sent waiting shown is counted
 counted_by plans from sent waiting shown false none counted = subst (λ set. IsCounted from sent set shown) (sym (none_due waiting none)) counted
 
 -- a plan was set, something was done, and the plan was taken back
@@ -99,7 +99,7 @@ back_after sent to waiting back = subst (λ m. IsTakenBack (due waiting ++ []) m
 
 -- the command itself counts nothing
 pub with_command : (from to : Meter) (set : List Plan) (apdu : List ℕ) (shown : TraceItem) → IsCounted from to set (shown ∷ []) → IsCounted from to set (item.Command apdu ∷ shown ∷ [])
-with_command from to set apdu shown counted = record { failures = counted.failures; cuts = counted.cuts; plans = counted.plans; latest = counted.latest; no_plan = counted.no_plan }
+with_command from to set apdu shown counted = record { failures = counted.failures; cuts = counted.cuts; plans = counted.plans; latest = counted.latest; in_force = counted.in_force; settings = counted.settings }
 
 -- ---- steps
 
@@ -113,7 +113,7 @@ disarmed_machine is_given sent after same = ap machine_of same ∙ same_machine 
 
 -- nothing was done
 pub idle_counted : (m : Meter) → IsCounted m m [] []
-idle_counted m = record { failures = refl; cuts = refl; plans = refl; latest = refl; no_plan = λ none. none }
+idle_counted m = record { failures = refl; cuts = refl; plans = refl; latest = refl; in_force = refl; settings = refl }
 
 -- the machine is the same where a plan was set
 pub set_machine : (from set : CardParts) (waiting : Plan) (old : Machine) → set ≡ record from { meter = planned from.meter waiting } → machine_of from ≡ Some old → machine_of set ≡ Some old
@@ -144,7 +144,7 @@ pub machine_set : (from set : End) (old : Machine) → set ≡ with_plan_set fro
 machine_set from set old given is = set_machine from.parts set.parts from.waiting old (parts_set from set given) is
 
 -- the count of faults is the same where a plan was set, and where it was taken back
-armed_faults : (named : Bool) (meter : Meter) (plan : Plan) → (if named then record meter { plans = raised meter.plans; latest = plan; plan = plan } else record meter { plan = plan }).faults ≡ meter.faults
+armed_faults : (named : Bool) (meter : Meter) (plan : Plan) → (if named then record meter { plans = raised meter.plans; latest = plan; plan = plan; settings = raised meter.settings; is_idle = true; programs = 0 } else record meter { plan = plan; settings = raised meter.settings; is_idle = true; programs = 0 }).faults ≡ meter.faults
 armed_faults true meter plan = refl
 armed_faults false meter plan = refl
 

@@ -18,6 +18,7 @@ cause_of {T} {U} old new fault cause = record {
   plans_kept = cause.plans_kept;
   latest_kept = cause.latest_kept;
   plan_kept = cause.plan_kept;
+  settings_kept = cause.settings_kept;
 } where
   again : {V W : Type 0} {other : StoreFault} → IsErrOf {T = V} (Err fault) other → IsErrOf {T = W} (Err fault) other
   again is = cc is

@@ -52,7 +52,7 @@ module _ {MemoryIsSame BoxesAreSame : Type 0} (given : Given) (status : ℕ) (be
 -- ---- a run that was not begun
 
 still : (meter : Meter) → IsCounted meter meter [] []
-still meter = record { failures = refl; cuts = refl; plans = refl; latest = refl; no_plan = λ none. none }
+still meter = record { failures = refl; cuts = refl; plans = refl; latest = refl; in_force = refl; settings = refl }
 
 -- its status is that of wrong words, of a sink that failed, or of a want of memory
 abbrev IsUnbegun : ℕ → Type 0

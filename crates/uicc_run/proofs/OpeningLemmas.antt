@@ -53,12 +53,20 @@ caused_counted old new caused no_failure no_loss = record {
   cuts = caused.no_cut no_loss;
   plans = caused.plans_kept;
   latest = caused.latest_kept;
-  no_plan = λ none. caused.plan_kept ∙ none;
+  in_force = caused.plan_kept;
+  settings = caused.settings_kept;
 }
 
 -- a call that shows nothing, be there a fault in it or none
 pub caused_kept : {Failed Lost : Type 0} → (old new : Meter) → Caused old new Failed Lost → IsUnplanned old new
-caused_kept old new caused = record { faults_kept = caused.faults_kept; cuts_kept = caused.cuts_kept; plans_kept = caused.plans_kept; latest_kept = caused.latest_kept; no_plan = λ none. caused.plan_kept ∙ none }
+caused_kept old new caused = record {
+  faults_kept = caused.faults_kept;
+  cuts_kept = caused.cuts_kept;
+  plans_kept = caused.plans_kept;
+  latest_kept = caused.latest_kept;
+  plan_kept = caused.plan_kept;
+  settings_kept = caused.settings_kept;
+}
 
 -- after what met none
 pub kept_on : {Failed Lost : Type 0} → (first middle last : Meter) → IsCounted first middle [] [] → Caused middle last Failed Lost → IsUnplanned first last
@@ -67,7 +75,8 @@ kept_on first middle last counted caused = record {
   cuts_kept = omega (arith, counted.cuts, caused.cuts_kept);
   plans_kept = caused.plans_kept ∙ counted.plans;
   latest_kept = caused.latest_kept ∙ counted.latest;
-  no_plan = λ none. caused.plan_kept ∙ counted.no_plan none;
+  plan_kept = caused.plan_kept ∙ counted.in_force;
+  settings_kept = caused.settings_kept ∙ counted.settings;
 }
 
 counted_kept : (old new : Meter) → IsCounted old new [] [] → IsUnplanned old new
@@ -76,7 +85,8 @@ counted_kept old new counted = record {
   cuts_kept = omega (arith, counted.cuts);
   plans_kept = counted.plans;
   latest_kept = counted.latest;
-  no_plan = counted.no_plan;
+  plan_kept = counted.in_force;
+  settings_kept = counted.settings;
 }
 
 -- ---- the card that the lines describe
@@ -391,7 +401,7 @@ not_made given is_told script left taken card held_then meter meter_then boxes_t
 -- nothing was done
 pub none_counted : (given : Given) (meter : Meter) → meter ≡ given.meter → IsCounted given.meter meter [] []
 none_counted given meter same =
-    subst (λ m. IsCounted given.meter m [] []) (sym same) (record { failures = refl; cuts = refl; plans = refl; latest = refl; no_plan = λ none. none })
+    subst (λ m. IsCounted given.meter m [] []) (sym same) (record { failures = refl; cuts = refl; plans = refl; latest = refl; in_force = refl; settings = refl })
 
 -- the script was not begun
 pub not_begun : (given : Given) (is_told : Bool) (left taken : Option (List ℕ)) (mark : ℕ) (told : Option (List ℕ)) (meter : Meter) (boxes boxes_then : List (Option AppletState)) → left ≡ Some given.text → IsGiven given is_told taken (option_map (stands_for mark) told) meter boxes
@@ -455,7 +465,7 @@ reached given script left card at = record {
 -- ---- where no card was open
 
 pub unplanned_still : (meter : Meter) → IsUnplanned meter meter
-unplanned_still meter = record { faults_kept = omega arith; cuts_kept = omega arith; plans_kept = refl; latest_kept = refl; no_plan = λ none. none }
+unplanned_still meter = record { faults_kept = omega arith; cuts_kept = omega arith; plans_kept = refl; latest_kept = refl; plan_kept = refl; settings_kept = refl }
 
 -- so it is with a run to which nothing was done
 pub quiet_still : (given : Given) (taken : Option (List ℕ)) (held : Option Persistent) (meter : Meter) (boxes : List (Option AppletState)) → taken ≡ given.before → meter ≡ given.meter → IsQuiet given (record { held = held; taken = taken; meter = meter; boxes = boxes })

@@ -1,7 +1,6 @@
 -- The status and the last line of each end of a run, and which ends are alike.
 use Rattle.std.specs.Prelude.{◌≡◌, ◌⊎◌, ℕ, false, List, [], ◌∷◌, Option, None, ◌≤◌}
 use Rattle.uicc_types.specs.Counts.{Meter, Rose}
-use Rattle.uicc_types.specs.declared.plans.TheConstants.Plan.{NONE}
 use Rattle.script_form.specs.declared.trace.TraceLine.{TraceLine}
 use Rattle.script_form.specs.declared.trace.TraceLine.TheVariants as line
 use Rattle.script_reader.specs.declared.behind.PlayEnd.TheVariants as play
@@ -79,10 +78,12 @@ KeepsBytes (NotACard at) held = Unit {0}
 KeepsBytes (NoApplet shelf) held = Unit {0}
 KeepsBytes ending held = ⊥
 
--- The device was given no plan, and no count fell. Nothing is shown of a fault that was met: the end of the run tells it.
+-- The device was told of no plan, so that the one before is in force still, and no count fell. Nothing is shown of a fault that was met: the
+-- end of the run tells it.
 pub record IsUnplanned (old new : Meter) : Type 0 where
   pub faults_kept : old.faults ≤ new.faults
   pub cuts_kept : old.cuts ≤ new.cuts
   pub plans_kept : new.plans ≡ old.plans
   pub latest_kept : new.latest ≡ old.latest
-  pub no_plan : old.plan ≡ NONE → new.plan ≡ NONE
+  pub plan_kept : new.plan ≡ old.plan
+  pub settings_kept : new.settings ≡ old.settings

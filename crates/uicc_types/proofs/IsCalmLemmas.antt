@@ -17,6 +17,7 @@ calm_same meter = record {
   plans_kept = refl;
   latest_kept = refl;
   plan_kept = refl;
+  settings_kept = refl;
 }
 
 pub caused_then : {IsFailed IsLost : Type 0} (old mid new : Meter) → IsCalm old mid → Caused mid new IsFailed IsLost → Caused old new IsFailed IsLost
@@ -37,6 +38,7 @@ caused_then old mid new calm caused =
       plans_kept = caused.plans_kept ∙ calm.plans_kept;
       latest_kept = caused.latest_kept ∙ calm.latest_kept;
       plan_kept = caused.plan_kept ∙ calm.plan_kept;
+      settings_kept = caused.settings_kept ∙ calm.settings_kept;
     }
 
 -- a call that answered Ok was calm
@@ -54,4 +56,5 @@ calm_ok old new not_failed not_lost caused = record {
   plans_kept = caused.plans_kept;
   latest_kept = caused.latest_kept;
   plan_kept = caused.plan_kept;
+  settings_kept = caused.settings_kept;
 }

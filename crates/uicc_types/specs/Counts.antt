@@ -20,8 +20,9 @@ pub record CountsFailure (before now : ℕ) (IsFailed : Type 0) : Type 0 where
   pub kept : before ≤ now
   pub rose : IsFailed → Rose before now
 
--- what can be read off a memory's device: how often it failed and lost power, whether it has power now, how many
--- plans that name a fault it was given, the latest of them, and the plan that is in force, which may name none
+-- What can be read off a memory's device: how often it failed and lost power, whether it has power now, how many plans that name a fault it
+-- was given, the latest of them, the plan that is in force, which may name none, and how often a plan was put in force. And since a plan was put
+-- in force last, or since it was made: whether no call came to it with power, and how many program calls did.
 pub record Meter : Type 0 where
   pub faults : ℕ
   pub cuts : ℕ
@@ -29,10 +30,14 @@ pub record Meter : Type 0 where
   pub plans : ℕ
   pub latest : Plan
   pub plan : Plan
+  pub settings : ℕ
+  pub is_idle : Bool
+  pub programs : ℕ
 
 -- A call has its causes. It answered Failed where it met one fault, which was counted, and met none otherwise. It answered
 -- PowerLost where power was lost in it, once, which was counted, or was not there when it began; otherwise none was lost. No
--- call but the one that sets a plan counts one or has another in force.
+-- call but the one that sets a plan counts one, has another in force, or tells the device of one. Of calls it says nothing: `used` and `calls`
+-- of a device's trait do.
 pub record Caused (old new : Meter) (IsFailed IsLost : Type 0) : Type 0 where
   pub faults_kept : old.faults ≤ new.faults
   pub cuts_kept : old.cuts ≤ new.cuts
@@ -46,11 +51,16 @@ pub record Caused (old new : Meter) (IsFailed IsLost : Type 0) : Type 0 where
   pub plans_kept : new.plans ≡ old.plans
   pub latest_kept : new.latest ≡ old.latest
   pub plan_kept : new.plan ≡ old.plan
+  pub settings_kept : new.settings ≡ old.settings
 
 -- the plan names a cut or a failure
 abbrev pub names_fault : Plan → Bool
 names_fault plan = is_some plan.cut || is_some plan.fail || is_some plan.read_fail
 
--- A device was given a plan, which is in force then: it counts one that names a fault, and that is its latest. Nothing else changes.
+-- A device was told of a plan: it is in force then, the count of plans that were put in force is one more, and no call has come to it with power
+-- since, so that no program call is counted. One that names a fault is counted as such too, and is the latest. Faults, losses of power and the
+-- power stay.
 abbrev pub armed : Meter → Plan → Meter
-armed old plan = if names_fault plan then record old { plans = raised old.plans; latest = plan; plan = plan } else record old { plan = plan }
+armed old plan =
+    if names_fault plan then record old { plans = raised old.plans; latest = plan; plan = plan; settings = raised old.settings; is_idle = true; programs = 0 }
+    else record old { plan = plan; settings = raised old.settings; is_idle = true; programs = 0 }

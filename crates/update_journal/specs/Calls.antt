@@ -1,4 +1,5 @@
--- How many program calls a journal makes of its device. They are counted in 64 bits, and at its end the count stands still.
+-- How many program calls a journal makes of its device, which counts those that come to it with power in 64 bits; at its end the count
+-- stands still.
 use Rattle.std.specs.Prelude.{◌≡◌, ℕ, ◌+◌, ◌-◌, ◌/◌, ◌%◌, ◌≤◌, nat_lt, if◌then◌else◌, sum_by, List, length, Result, OnOk, OnErr}
 use Rattle.uicc_types.specs.Counts.{raised_by}
 use Rattle.eeprom_model.specs.declared.device.TheConstants.{PAGE_LENGTH}
@@ -7,11 +8,6 @@ use Rattle.store_form.specs.Pieces.{Piece}
 use Rattle.update_journal.specs.declared.steps.TheConstants.{ENTRIES}
 use Rattle.update_journal.specs.Entries.{entries}
 use Rattle.update_journal.specs.Journal.{is_open, pending}
-
--- a device, and how many program calls were made of it
-pub record Counted (E : Type 0) : Type 0 where
-  pub eeprom : E
-  pub programs : ℕ
 
 -- ---- how many calls a write takes
 
@@ -41,5 +37,5 @@ MadeAtMost times before now = (done : ℕ) × ((done ≤ times) × (now ≡ rais
 pub record MakesCalls {T : Type 0} (times before now : ℕ) (result : Result T StoreFault) : Type 0 where
   -- after Ok just so many
   pub all : OnOk result (now ≡ raised_by times before)
-  -- after a fault no more than these; the call that met it may be one of them that is not counted
+  -- after a fault no more than these: those that came to the device with power
   pub no_more : OnErr result (MadeAtMost times before now)

@@ -8,11 +8,10 @@ use Rattle.store_form.specs.Pieces.{Piece, applied}
 use Rattle.update_journal.specs.declared.steps.TheConstants.{GATE, ENTRIES, OPEN, CLOSED}
 use Rattle.update_journal.specs.Entries.{entries, pieces_in}
 
--- a store over a journal: its device, how many program calls it made of that, how many commits it answered with Ok, how many reads and
--- recoveries were asked of it, and whether it takes no recovery to be due
+-- a store over a journal: its device, how many commits it answered with Ok, how many reads and recoveries were asked of it, and whether it
+-- takes no recovery to be due
 pub record Journaled (E : Type 0) : Type 0 where
   pub device : E
-  pub programs : ℕ
   pub commits : ℕ
   pub reads : ℕ
   pub recoveries : ℕ

@@ -9,7 +9,6 @@ ghost use Rattle.update_journal.specs.Calls.{calls_at, calls_to_commit, calls_to
 ghost use Rattle.update_journal.specs.Journal.{is_open, is_recovered, stable, committed, recovered_image};
 ghost use Rattle.update_journal.specs.Laws.{told_stable, told_own};
 
-use crate::device::CountedDevice;
 use crate::steps::MOST_TO_RECOVER;
 use crate::{device, steps};
 use eeprom_model::Eeprom;
@@ -17,11 +16,11 @@ use std::marker::Model;
 use store_form::{OWN_END, Store, StoreFault, Writes};
 use uicc_types::Plan;
 
-/// A store on a device of at least 832 bytes. What a contract sees of it is its device, the counts of the program calls that it made of
-/// that, of its commits, and of the reads and recoveries that were asked of it, and whether it takes no recovery to be due.
+/// A store on a device of at least 832 bytes. What a contract sees of it is its device, the counts of its commits, and of the reads and
+/// recoveries that were asked of it, and whether it takes no recovery to be due.
 #[derive(Debug, Drop)]
 pub struct Journal<E: Eeprom> {
-    counted: CountedDevice<E>,
+    device: E,
     commits: u64,
     reads: u64,
     recoveries: u64,
@@ -34,8 +33,7 @@ impl<E: Eeprom> Model for Journal<E> {
     ghost Value = { Journaled E };
 
     ghost view = { λ journal. record {
-      device = journal.counted.eeprom;
-      programs = journal.counted.programs;
+      device = journal.device;
       commits = journal.commits;
       reads = journal.reads;
       recoveries = journal.recoveries;
@@ -43,17 +41,17 @@ impl<E: Eeprom> Model for Journal<E> {
     } };
 
     ghost invariant = { λ journal.
-        IsJournaled (E.byte_count journal.counted.eeprom) (E.meter journal.counted.eeprom) journal.is_ready };
+        IsJournaled (E.byte_count journal.device) (E.meter journal.device) journal.is_ready };
 }
 
 impl<E: Eeprom> Journal<E> {
     /// A journal on this device. Whether a commit is to be ended is not known yet: a recovery is due.
     pub fn new(eeprom: E) -> Journal<E>
         requires { OWN_END ≤ E.byte_count eeprom }
-        ensures { result ≡ record { device = eeprom; programs = 0; commits = 0; reads = 0; recoveries = 0; is_ready = false } }
+        ensures { result ≡ record { device = eeprom; commits = 0; reads = 0; recoveries = 0; is_ready = false } }
     {
         Journal {
-            counted: CountedDevice::new(eeprom),
+            device: eeprom,
             commits: 0,
             reads: 0,
             recoveries: 0,
@@ -66,7 +64,7 @@ impl<E: Eeprom> Journal<E> {
         ensures device { result ≡ self.device }
         ensures size { OWN_END ≤ E.byte_count result }
     {
-        self.counted.into_device()
+        self.device
     }
 }
 
@@ -96,7 +94,7 @@ impl<E: Eeprom> Store for Journal<E> {
     #[tactic(auto, using(crate::proofs::AreBytesLemmas::told_bytes))]
     fn mark(&self) -> u8 {
         // What the device tells are bytes, which it says with its size.
-        let _size = self.counted.size();
+        let _size = self.device.size();
         0
     }
 
@@ -116,11 +114,11 @@ impl<E: Eeprom> Store for Journal<E> {
         // After a fault a recovery is due.
         ensures due { OnErr result (is_recovered self.new.is_ready (E.contents self.new.device) ≡ false) }
         // Nothing is programmed.
-        ensures calls { self.new.programs ≡ self.old.programs }
+        ensures calls { (E.meter self.new.device).programs ≡ (E.meter self.old.device).programs }
         ensures left { E.contents self.new.device ≡ E.contents self.old.device }
     {
         self.reads = self.reads.saturating_add(1);
-        match device::read(&mut self.counted, at, out) {
+        match device::read(&mut self.device, at, out) {
             Ok(()) => Ok(()),
             Err(fault) => {
                 self.is_ready = false;
@@ -145,12 +143,12 @@ impl<E: Eeprom> Store for Journal<E> {
         // After a fault a recovery is due.
         ensures due { OnErr result (is_recovered self.new.is_ready (E.contents self.new.device) ≡ false) }
         // A call for each page of the entries and of the pieces, and two for the gate.
-        ensures calls { MakesCalls (calls_to_commit writes.now) self.old.programs self.new.programs result }
+        ensures calls { MakesCalls (calls_to_commit writes.now) (E.meter self.old.device).programs (E.meter self.new.device).programs result }
         // Each byte of the device, also of the journal's own.
         ensures left { OnOk result (E.contents self.new.device ≡ option_map (committed writes.now) (E.contents self.old.device)) }
     {
         self.is_ready = false;
-        steps::commit(&mut self.counted, writes)?;
+        steps::commit(&mut self.device, writes)?;
         self.is_ready = true;
         self.commits = self.commits.saturating_add(1);
         Ok(())
@@ -171,12 +169,12 @@ impl<E: Eeprom> Store for Journal<E> {
         // After a fault a recovery is due.
         ensures due { OnErr result (is_recovered self.new.is_ready (E.contents self.new.device) ≡ false) }
         // A call for each page of the range.
-        ensures calls { MakesCalls (calls_at at (length bytes.now)) self.old.programs self.new.programs result }
+        ensures calls { MakesCalls (calls_at at (length bytes.now)) (E.meter self.old.device).programs (E.meter self.new.device).programs result }
         // Each byte of the device, also of the journal's own.
         ensures left { OnOk result (E.contents self.new.device ≡ option_map (patched at bytes.now) (E.contents self.old.device)) }
     {
         self.is_ready = false;
-        steps::prepare(&mut self.counted, at, bytes)?;
+        steps::prepare(&mut self.device, at, bytes)?;
         self.is_ready = true;
         Ok(())
     }
@@ -197,40 +195,38 @@ impl<E: Eeprom> Store for Journal<E> {
         ensures due { OnErr result (is_recovered self.new.is_ready (E.contents self.new.device) ≡ false) }
         // A call for each page of the pieces that are to be written, and one for the gate; none where the gate isn't open.
         ensures calls { IfSome (E.contents self.old.device)
-            (λ image. MakesCalls (calls_to_recover image) self.old.programs self.new.programs result) }
+            (λ image. MakesCalls (calls_to_recover image) (E.meter self.old.device).programs (E.meter self.new.device).programs result) }
         // At most 18 calls, also where the device tells nothing.
-        ensures few_calls { MadeAtMost MOST_TO_RECOVER self.old.programs self.new.programs }
+        ensures few_calls { MadeAtMost MOST_TO_RECOVER (E.meter self.old.device).programs (E.meter self.new.device).programs }
         // Each byte of the device, also of the journal's own.
         ensures left { OnOk result (E.contents self.new.device ≡ option_map recovered_image (E.contents self.old.device)) }
     {
         self.recoveries = self.recoveries.saturating_add(1);
         self.is_ready = false;
-        steps::recover(&mut self.counted)?;
+        steps::recover(&mut self.device)?;
         self.is_ready = true;
         Ok(())
     }
 
     fn power_up(&mut self)
+        // Nothing is programmed: the count of program calls stays too.
         ensures power { E.meter self.new.device ≡ record (E.meter self.old.device) { powered = true } }
         ensures keeps { HoldsTheSame (λ journal. E.byte_count journal.device) (λ _. 0) (λ journal. stable (E.contents journal.device)) (λ journal. journal.commits) self.old self.new }
         ensures asked { IsAsked (λ journal. journal.reads) (λ journal. journal.recoveries) self.old self.new 0 0 }
         ensures ready { is_recovered self.new.is_ready (E.contents self.new.device) ≡ is_recovered self.old.is_ready (E.contents self.old.device) }
-        // Nothing is programmed.
-        ensures calls { self.new.programs ≡ self.old.programs }
         ensures left { E.contents self.new.device ≡ E.contents self.old.device }
     {
-        self.counted.power_up();
+        self.device.power_up();
     }
 
     fn arm(&mut self, plan: Plan)
+        // Program calls are counted from 0 again.
         ensures plan { E.meter self.new.device ≡ armed (E.meter self.old.device) plan }
         ensures keeps { HoldsTheSame (λ journal. E.byte_count journal.device) (λ _. 0) (λ journal. stable (E.contents journal.device)) (λ journal. journal.commits) self.old self.new }
         ensures asked { IsAsked (λ journal. journal.reads) (λ journal. journal.recoveries) self.old self.new 0 0 }
         ensures ready { is_recovered self.new.is_ready (E.contents self.new.device) ≡ is_recovered self.old.is_ready (E.contents self.old.device) }
-        // Nothing is programmed.
-        ensures calls { self.new.programs ≡ self.old.programs }
         ensures left { E.contents self.new.device ≡ E.contents self.old.device }
     {
-        self.counted.arm(plan);
+        self.device.arm(plan);
     }
 }

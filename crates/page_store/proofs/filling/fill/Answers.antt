@@ -49,16 +49,16 @@ returns-clause-kept g c =
 
 pub returns-in_err-fill_pages-clause-calls : goal.returns-in_err-fill_pages-clause-calls
 returns-in_err-fill_pages-clause-calls g c =
-    faulted calls_to_fill (g.S.CountedStore.programs c.args.store.now) (g.S.CountedStore.programs c.fill_pages.new.store) c.from_residual.result c.from_residual.ensures.0
-    (fill_begun (g.S.CountedStore.programs c.args.store.now) (g.S.CountedStore.programs c.fill_pages.new.store) c.in_err-fill_pages.ensures.calls.no_more)
+    faulted calls_to_fill (g.S.CountedStore.meter c.args.store.now).programs (g.S.CountedStore.meter c.fill_pages.new.store).programs c.from_residual.result c.from_residual.ensures.0
+    (fill_begun (g.S.CountedStore.meter c.args.store.now).programs (g.S.CountedStore.meter c.fill_pages.new.store).programs c.in_err-fill_pages.ensures.calls.no_more)
 
 pub returns-in_err-prepare-clause-calls : goal.returns-in_err-prepare-clause-calls
 returns-in_err-prepare-clause-calls g c =
-    faulted calls_to_fill (g.S.CountedStore.programs c.args.store.now) (g.S.CountedStore.programs c.prepare.new.self) c.from_residual-in_err-prepare.result c.from_residual-in_err-prepare.ensures.0
-    (fill_fault _ (g.S.CountedStore.programs c.args.store.now) (g.S.CountedStore.programs c.fill_pages.new.store) (g.S.CountedStore.programs c.prepare.new.self) c.first_map-bytes.ensures.long c.in_ok-fill_pages.ensures.calls.all c.in_err-prepare.ensures.calls.no_more)
+    faulted calls_to_fill (g.S.CountedStore.meter c.args.store.now).programs (g.S.CountedStore.meter c.prepare.new.self).programs c.from_residual-in_err-prepare.result c.from_residual-in_err-prepare.ensures.0
+    (fill_fault _ (g.S.CountedStore.meter c.args.store.now).programs (g.S.CountedStore.meter c.fill_pages.new.store).programs (g.S.CountedStore.meter c.prepare.new.self).programs c.first_map-bytes.ensures.long c.in_ok-fill_pages.ensures.calls.all c.in_err-prepare.ensures.calls.no_more)
 
 pub returns-clause-calls : goal.returns-clause-calls
 returns-clause-calls g c = record {
-  all = fill_done _ (g.S.CountedStore.programs c.args.store.now) (g.S.CountedStore.programs c.fill_pages.new.store) (g.S.CountedStore.programs c.prepare.new.self) c.first_map-bytes.ensures.long c.in_ok-fill_pages.ensures.calls.all c.in_ok-prepare.ensures.calls.all;
+  all = fill_done _ (g.S.CountedStore.meter c.args.store.now).programs (g.S.CountedStore.meter c.fill_pages.new.store).programs (g.S.CountedStore.meter c.prepare.new.self).programs c.first_map-bytes.ensures.long c.in_ok-fill_pages.ensures.calls.all c.in_ok-prepare.ensures.calls.all;
   no_more = tt;
 }

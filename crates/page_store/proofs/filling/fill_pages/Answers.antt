@@ -22,7 +22,7 @@ loop-page-init g c =
       recovered = c.in_ok-prepare.ensures.ready;
       size = refl;
       mark = refl;
-      calls = all_blanks_left (g.S.CountedStore.programs c.prepare.new.self);
+      calls = all_blanks_left (g.S.CountedStore.meter c.prepare.new.self).programs;
       calm = calm_same (g.S.CountedStore.meter c.prepare.new.self);
     }
 
@@ -43,7 +43,7 @@ loop-page-preserved g c =
       recovered = c.in_ok-prepare-2.ensures.ready;
       size = c.in_ok-prepare-2.ensures.keeps.size ∙ c.loop-page.invariant.size;
       mark = c.in_ok-prepare-2.ensures.keeps.mark ∙ c.loop-page.invariant.mark;
-      calls = blank_done c.loop-page.page 64 (g.S.CountedStore.programs c.prepare.new.self) (g.S.CountedStore.programs c.loop-page.store) (g.S.CountedStore.programs c.prepare-in-loop-page.new.self) c.loop-page-test.true refl
+      calls = blank_done c.loop-page.page 64 (g.S.CountedStore.meter c.prepare.new.self).programs (g.S.CountedStore.meter c.loop-page.store).programs (g.S.CountedStore.meter c.prepare-in-loop-page.new.self).programs c.loop-page-test.true refl
           c.loop-page.invariant.calls c.in_ok-prepare-2.ensures.calls.all;
       calm = caused_then _ (g.S.CountedStore.meter c.loop-page.store) _ c.loop-page.invariant.calm (calm_ok _ _ (λ e. cc) (λ e. cc) c.in_ok-prepare-2.ensures.cause);
     }
@@ -64,20 +64,20 @@ returns-clause-blank g c =
 
 pub returns-in_err-prepare-clause-calls : goal.returns-in_err-prepare-clause-calls
 returns-in_err-prepare-clause-calls g c =
-    faulted calls_to_blank (g.S.CountedStore.programs c.args.store.now) (g.S.CountedStore.programs c.prepare.new.self) c.from_residual.result c.from_residual.ensures.0
-    (first_blank (g.S.CountedStore.programs c.args.store.now) (g.S.CountedStore.programs c.prepare.new.self) c.in_err-prepare.ensures.calls.no_more)
+    faulted calls_to_blank (g.S.CountedStore.meter c.args.store.now).programs (g.S.CountedStore.meter c.prepare.new.self).programs c.from_residual.result c.from_residual.ensures.0
+    (first_blank (g.S.CountedStore.meter c.args.store.now).programs (g.S.CountedStore.meter c.prepare.new.self).programs c.in_err-prepare.ensures.calls.no_more)
 
 pub returns-in_err-prepare-2-clause-calls : goal.returns-in_err-prepare-2-clause-calls
 returns-in_err-prepare-2-clause-calls g c =
-    let first : g.S.CountedStore.programs c.prepare.new.self ≡ raised_by 1 (g.S.CountedStore.programs c.args.store.now) = c.in_ok-prepare.ensures.calls.all ∙ ap (λ n. raised_by n (g.S.CountedStore.programs c.args.store.now)) (page_call 0 64 refl) in
-    faulted calls_to_blank (g.S.CountedStore.programs c.args.store.now) (g.S.CountedStore.programs c.prepare-in-loop-page.new.self) c.from_residual-in_err-prepare-2.result c.from_residual-in_err-prepare-2.ensures.0
-    (blank_fault c.loop-page.page 64 (g.S.CountedStore.programs c.args.store.now) (g.S.CountedStore.programs c.prepare.new.self) (g.S.CountedStore.programs c.loop-page.store) (g.S.CountedStore.programs c.prepare-in-loop-page.new.self)
+    let first : (g.S.CountedStore.meter c.prepare.new.self).programs ≡ raised_by 1 (g.S.CountedStore.meter c.args.store.now).programs = c.in_ok-prepare.ensures.calls.all ∙ ap (λ n. raised_by n (g.S.CountedStore.meter c.args.store.now).programs) (page_call 0 64 refl) in
+    faulted calls_to_blank (g.S.CountedStore.meter c.args.store.now).programs (g.S.CountedStore.meter c.prepare-in-loop-page.new.self).programs c.from_residual-in_err-prepare-2.result c.from_residual-in_err-prepare-2.ensures.0
+    (blank_fault c.loop-page.page 64 (g.S.CountedStore.meter c.args.store.now).programs (g.S.CountedStore.meter c.prepare.new.self).programs (g.S.CountedStore.meter c.loop-page.store).programs (g.S.CountedStore.meter c.prepare-in-loop-page.new.self).programs
     c.loop-page-test.true refl first c.loop-page.invariant.calls c.in_err-prepare-2.ensures.calls.no_more)
 
 pub returns-clause-calls : goal.returns-clause-calls
 returns-clause-calls g c =
-    let first : g.S.CountedStore.programs c.prepare.new.self ≡ raised_by 1 (g.S.CountedStore.programs c.args.store.now) = c.in_ok-prepare.ensures.calls.all ∙ ap (λ n. raised_by n (g.S.CountedStore.programs c.args.store.now)) (page_call 0 64 refl) in
+    let first : (g.S.CountedStore.meter c.prepare.new.self).programs ≡ raised_by 1 (g.S.CountedStore.meter c.args.store.now).programs = c.in_ok-prepare.ensures.calls.all ∙ ap (λ n. raised_by n (g.S.CountedStore.meter c.args.store.now).programs) (page_call 0 64 refl) in
     record {
-      all = blanks_done c.loop-page.page (g.S.CountedStore.programs c.args.store.now) (g.S.CountedStore.programs c.prepare.new.self) (g.S.CountedStore.programs c.loop-page.store) (omega (arith, c.loop-page-test.false, c.loop-page.auto.page-end)) first c.loop-page.invariant.calls;
+      all = blanks_done c.loop-page.page (g.S.CountedStore.meter c.args.store.now).programs (g.S.CountedStore.meter c.prepare.new.self).programs (g.S.CountedStore.meter c.loop-page.store).programs (omega (arith, c.loop-page-test.false, c.loop-page.auto.page-end)) first c.loop-page.invariant.calls;
       no_more = search rules;
     }

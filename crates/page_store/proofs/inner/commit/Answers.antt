@@ -44,13 +44,13 @@ pub returns-in_err-move_pages-clause-calls : goal.returns-in_err-move_pages-clau
 returns-in_err-move_pages-clause-calls g c = record {
   all = search rules;
   no_more =
-      on_err c.from_residual.result (fewer (done_count c.args.writes.now 1024) (calls_to_move c.args.writes.now c.args.table.now) (g.S.CountedStore.programs c.args.store.now) (g.S.CountedStore.programs c.move_pages.new.store) (omega arith)
+      on_err c.from_residual.result (fewer (done_count c.args.writes.now 1024) (calls_to_move c.args.writes.now c.args.table.now) (g.S.CountedStore.meter c.args.store.now).programs (g.S.CountedStore.meter c.move_pages.new.store).programs (omega arith)
       c.in_err-move_pages.ensures.calls.no_more);
 }
 
 pub returns-clause-calls : goal.returns-clause-calls
 returns-clause-calls g c =
     let below = c.inner_writes-inner.ensures ∙ ap (λ kept. map (inner_piece kept.entries) c.args.writes.now) c.in_ok-move_pages.ensures.moved in
-    then_calls (done_count c.args.writes.now 1024) _ (g.S.CountedStore.programs c.args.store.now) (g.S.CountedStore.programs c.move_pages.new.store) (g.S.CountedStore.programs c.commit.new.self) c.commit.result
+    then_calls (done_count c.args.writes.now 1024) _ (g.S.CountedStore.meter c.args.store.now).programs (g.S.CountedStore.meter c.move_pages.new.store).programs (g.S.CountedStore.meter c.commit.new.self).programs c.commit.result
     c.in_ok-move_pages.ensures.calls.all
-    (made_as (calls_to_commit c.inner_writes-inner.result) _ (g.S.CountedStore.programs c.move_pages.new.store) (g.S.CountedStore.programs c.commit.new.self) c.commit.result (ap (λ ps. calls_to_commit ps) below) c.commit.ensures.calls)
+    (made_as (calls_to_commit c.inner_writes-inner.result) _ (g.S.CountedStore.meter c.move_pages.new.store).programs (g.S.CountedStore.meter c.commit.new.self).programs c.commit.result (ap (λ ps. calls_to_commit ps) below) c.commit.ensures.calls)

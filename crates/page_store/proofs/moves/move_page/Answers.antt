@@ -60,7 +60,7 @@ returns-clause-pool g c = subst IsPool (sym c.move_page.ensures) (pool_moved c.a
 pub returns-in_err-read-clause-calls : goal.returns-in_err-read-clause-calls
 returns-in_err-read-clause-calls g c = record {
   all = search rules;
-  no_more = on_err c.from_residual.result (none_made 1 (g.S.CountedStore.programs c.args.store.now) (g.S.CountedStore.programs c.read.new.self) c.in_err-read.ensures.calls);
+  no_more = on_err c.from_residual.result (none_made 1 (g.S.CountedStore.meter c.args.store.now).programs (g.S.CountedStore.meter c.read.new.self).programs c.in_err-read.ensures.calls);
 }
 
 pub returns-in_err-prepare-clause-calls : goal.returns-in_err-prepare-clause-calls
@@ -69,14 +69,14 @@ returns-in_err-prepare-clause-calls g c =
     record {
       all = search rules;
       no_more =
-          on_err c.from_residual-in_err-prepare.result (subst (λ n. MadeAtMost n (g.S.CountedStore.programs c.args.store.now) (g.S.CountedStore.programs c.prepare.new.self)) one
-          (subst (λ n. MadeAtMost (calls_at (64 * c.from.result) (length c.put_pieces.new.bytes)) n (g.S.CountedStore.programs c.prepare.new.self)) c.in_ok-read.ensures.calls c.in_err-prepare.ensures.calls.no_more));
+          on_err c.from_residual-in_err-prepare.result (subst (λ n. MadeAtMost n (g.S.CountedStore.meter c.args.store.now).programs (g.S.CountedStore.meter c.prepare.new.self).programs) one
+          (subst (λ n. MadeAtMost (calls_at (64 * c.from.result) (length c.put_pieces.new.bytes)) n (g.S.CountedStore.meter c.prepare.new.self).programs) c.in_ok-read.ensures.calls c.in_err-prepare.ensures.calls.no_more));
     }
 
 pub returns-clause-calls : goal.returns-clause-calls
 returns-clause-calls g c =
     let one = page_call c.from.result _ c.put_pieces.array_long in
     record {
-      all = c.in_ok-prepare.ensures.calls.all ∙ ap (λ n. raised_by n (g.S.CountedStore.programs c.read.new.self)) one ∙ ap (λ n. raised_by 1 n) c.in_ok-read.ensures.calls;
+      all = c.in_ok-prepare.ensures.calls.all ∙ ap (λ n. raised_by n (g.S.CountedStore.meter c.read.new.self).programs) one ∙ ap (λ n. raised_by 1 n) c.in_ok-read.ensures.calls;
       no_more = search rules;
     }

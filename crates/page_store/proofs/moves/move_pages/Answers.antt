@@ -17,7 +17,7 @@ loop-page-init g c = record {
   recovered = c.requires.below.recovered;
   size = refl;
   mark = refl;
-  calls = all_pages_left c.args.writes.now (g.S.CountedStore.programs c.args.store.now);
+  calls = all_pages_left c.args.writes.now (g.S.CountedStore.meter c.args.store.now).programs;
   calm = calm_same (g.S.CountedStore.meter c.args.store.now);
 }
 
@@ -37,7 +37,7 @@ loop-page-preserved g c =
       recovered = c.in_ok-move_touched.ensures.keeps.ready;
       size = c.in_ok-move_touched.ensures.keeps.size ∙ c.loop-page.invariant.size;
       mark = c.in_ok-move_touched.ensures.keeps.mark ∙ c.loop-page.invariant.mark;
-      calls = page_done c.args.writes.now c.loop-page.page (g.S.CountedStore.programs c.args.store.now) (g.S.CountedStore.programs c.loop-page.store) (g.S.CountedStore.programs c.move_touched.new.store) c.loop-page.auto.page c.loop-page-test.true
+      calls = page_done c.args.writes.now c.loop-page.page (g.S.CountedStore.meter c.args.store.now).programs (g.S.CountedStore.meter c.loop-page.store).programs (g.S.CountedStore.meter c.move_touched.new.store).programs c.loop-page.auto.page c.loop-page-test.true
           c.loop-page.invariant.calls c.in_ok-move_touched.ensures.calls.all;
       calm = caused_then _ (g.S.CountedStore.meter c.loop-page.store) _ c.loop-page.invariant.calm (calm_ok _ _ (λ e. cc) (λ e. cc) c.in_ok-move_touched.ensures.keeps.cause);
     }
@@ -56,11 +56,11 @@ pub returns-in_err-move_touched-clause-calls : goal.returns-in_err-move_touched-
 returns-in_err-move_touched-clause-calls g c = record {
   all = search rules;
   no_more =
-      on_err c.from_residual.result (page_fault c.args.writes.now c.loop-page.page (g.S.CountedStore.programs c.args.store.now) (g.S.CountedStore.programs c.loop-page.store) (g.S.CountedStore.programs c.move_touched.new.store) c.loop-page.auto.page c.loop-page-test.true
+      on_err c.from_residual.result (page_fault c.args.writes.now c.loop-page.page (g.S.CountedStore.meter c.args.store.now).programs (g.S.CountedStore.meter c.loop-page.store).programs (g.S.CountedStore.meter c.move_touched.new.store).programs c.loop-page.auto.page c.loop-page-test.true
       c.loop-page.invariant.calls c.in_err-move_touched.ensures.calls.no_more);
 }
 
 pub returns-clause-calls : goal.returns-clause-calls
 returns-clause-calls g c =
     let at_end : c.loop-page.page ≡ 1024 = omega arith in
-    record { all = pages_done c.args.writes.now c.loop-page.page (g.S.CountedStore.programs c.args.store.now) (g.S.CountedStore.programs c.loop-page.store) at_end c.loop-page.invariant.calls; no_more = search rules }
+    record { all = pages_done c.args.writes.now c.loop-page.page (g.S.CountedStore.meter c.args.store.now).programs (g.S.CountedStore.meter c.loop-page.store).programs at_end c.loop-page.invariant.calls; no_more = search rules }

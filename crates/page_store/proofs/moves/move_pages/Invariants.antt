@@ -13,6 +13,6 @@ invariant-loop-page g l = record {
   recovered : g.S.CountedStore.recovered l.store ≡ true;
   size : g.S.CountedStore.byte_count l.store ≡ g.S.CountedStore.byte_count l.initial.store;
   mark : g.S.CountedStore.store_mark l.store ≡ g.S.CountedStore.store_mark l.initial.store;
-  calls : PagesLeft l.writes l.page (g.S.CountedStore.programs l.initial.store) (g.S.CountedStore.programs l.store);
+  calls : PagesLeft l.writes l.page (g.S.CountedStore.meter l.initial.store).programs (g.S.CountedStore.meter l.store).programs;
   calm : IsCalm (g.S.CountedStore.meter l.initial.store) (g.S.CountedStore.meter l.store);
 }

@@ -9,14 +9,14 @@ use Rattle.page_store.specs.Paged.{table_of}
 use Rattle.page_store.proofs.paged.commit.Goals as goal
 
 pub returns-in_err-read-clause-calls : goal.returns-in_err-read-clause-calls
-returns-in_err-read-clause-calls g c = record { all = search rules; no_more = on_err c.from_residual.result (none_made (calls_to_write c.args.known.now c.args.writes.now) (g.S.CountedStore.programs c.args.store.now) (g.S.CountedStore.programs c.read.new.self) c.in_err-read.ensures.calls) }
+returns-in_err-read-clause-calls g c = record { all = search rules; no_more = on_err c.from_residual.result (none_made (calls_to_write c.args.known.now c.args.writes.now) (g.S.CountedStore.meter c.args.store.now).programs (g.S.CountedStore.meter c.read.new.self).programs c.in_err-read.ensures.calls) }
 
 pub returns-in_err-table-clause-calls : goal.returns-in_err-table-clause-calls
 returns-in_err-table-clause-calls g c = record {
   all = search rules;
   no_more =
-      on_err c.from_residual-in_err-table.result (fewer (calls_to_begin c.args.known.now) (calls_to_write c.args.known.now c.args.writes.now) (g.S.CountedStore.programs c.args.store.now) (g.S.CountedStore.programs c.take_table.new.store) (omega arith)
-      (subst (λ n. MadeAtMost (calls_to_begin c.args.known.now) n (g.S.CountedStore.programs c.take_table.new.store)) c.in_ok-read.ensures.calls c.in_err-table.ensures.calls.no_more));
+      on_err c.from_residual-in_err-table.result (fewer (calls_to_begin c.args.known.now) (calls_to_write c.args.known.now c.args.writes.now) (g.S.CountedStore.meter c.args.store.now).programs (g.S.CountedStore.meter c.take_table.new.store).programs (omega arith)
+      (subst (λ n. MadeAtMost (calls_to_begin c.args.known.now) n (g.S.CountedStore.meter c.take_table.new.store).programs) c.in_ok-read.ensures.calls c.in_err-table.ensures.calls.no_more));
 }
 
 pub returns-in_err-commit-clause-calls : goal.returns-in_err-commit-clause-calls
@@ -25,15 +25,15 @@ returns-in_err-commit-clause-calls g c =
     record {
       all = search rules;
       no_more =
-          on_err c.from_residual-in_err-commit.result (then_at_most (calls_to_begin c.args.known.now) (calls_to_move c.args.writes.now (table_of c.args.known.now)) (g.S.CountedStore.programs c.args.store.now) (g.S.CountedStore.programs c.take_table.new.store) (g.S.CountedStore.programs c.commit.new.store) begun
-          (subst (λ t. MadeAtMost (calls_to_move c.args.writes.now t) (g.S.CountedStore.programs c.take_table.new.store) (g.S.CountedStore.programs c.commit.new.store)) c.in_ok-table.ensures.table c.in_err-commit.ensures.calls.no_more));
+          on_err c.from_residual-in_err-commit.result (then_at_most (calls_to_begin c.args.known.now) (calls_to_move c.args.writes.now (table_of c.args.known.now)) (g.S.CountedStore.meter c.args.store.now).programs (g.S.CountedStore.meter c.take_table.new.store).programs (g.S.CountedStore.meter c.commit.new.store).programs begun
+          (subst (λ t. MadeAtMost (calls_to_move c.args.writes.now t) (g.S.CountedStore.meter c.take_table.new.store).programs (g.S.CountedStore.meter c.commit.new.store).programs) c.in_ok-table.ensures.table c.in_err-commit.ensures.calls.no_more));
     }
 
 pub returns-clause-calls : goal.returns-clause-calls
 returns-clause-calls g c =
     let begun = c.in_ok-table.ensures.calls.all ∙ ap (λ n. raised_by (calls_to_begin c.args.known.now) n) c.in_ok-read.ensures.calls in
     record {
-      all = then_all (calls_to_begin c.args.known.now) (calls_to_move c.args.writes.now (table_of c.args.known.now)) (g.S.CountedStore.programs c.args.store.now) (g.S.CountedStore.programs c.take_table.new.store) (g.S.CountedStore.programs c.commit.new.store) begun
-          (subst (λ t. g.S.CountedStore.programs c.commit.new.store ≡ raised_by (calls_to_move c.args.writes.now t) (g.S.CountedStore.programs c.take_table.new.store)) c.in_ok-table.ensures.table c.in_ok-commit.ensures.calls.all);
+      all = then_all (calls_to_begin c.args.known.now) (calls_to_move c.args.writes.now (table_of c.args.known.now)) (g.S.CountedStore.meter c.args.store.now).programs (g.S.CountedStore.meter c.take_table.new.store).programs (g.S.CountedStore.meter c.commit.new.store).programs begun
+          (subst (λ t. (g.S.CountedStore.meter c.commit.new.store).programs ≡ raised_by (calls_to_move c.args.writes.now t) (g.S.CountedStore.meter c.take_table.new.store).programs) c.in_ok-table.ensures.table c.in_ok-commit.ensures.calls.all);
       no_more = search rules;
     }

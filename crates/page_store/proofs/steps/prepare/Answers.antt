@@ -20,7 +20,7 @@ loop-done-init g c = record {
   recovered = c.requires.below.recovered;
   size = refl;
   mark = refl;
-  calls = all_left_at c.args.at (length c.args.bytes.now) (g.S.CountedStore.programs c.args.store.now);
+  calls = all_left_at c.args.at (length c.args.bytes.now) (g.S.CountedStore.meter c.args.store.now).programs;
   calm = calm_same (g.S.CountedStore.meter c.args.store.now);
 }
 
@@ -42,7 +42,7 @@ loop-done-preserved g c = record {
   size = c.in_ok-prepare_part.ensures.keeps.size ∙ c.loop-done.invariant.size;
   mark = c.in_ok-prepare_part.ensures.keeps.mark ∙ c.loop-done.invariant.mark;
   calls = after_some 1 (calls_at (c.args.at + c.loop-done.done) (length c.args.bytes.now - c.loop-done.done)) (calls_at (c.args.at + (c.loop-done.done + c.min-count.result)) (length c.args.bytes.now - (c.loop-done.done + c.min-count.result)))
-      (calls_at c.args.at (length c.args.bytes.now)) (g.S.CountedStore.programs c.args.store.now) (g.S.CountedStore.programs c.loop-done.store) (g.S.CountedStore.programs c.prepare_part.new.store) c.loop-done.invariant.calls
+      (calls_at c.args.at (length c.args.bytes.now)) (g.S.CountedStore.meter c.args.store.now).programs (g.S.CountedStore.meter c.loop-done.store).programs (g.S.CountedStore.meter c.prepare_part.new.store).programs c.loop-done.invariant.calls
       (part_next c.args.at c.loop-done.done c.min-count.result (length c.args.bytes.now) (omega (arith, c.loop-done-test.true)) (omega (arith, c.min-count.ensures))) c.in_ok-prepare_part.ensures.calls.all;
   calm = caused_then _ (g.S.CountedStore.meter c.loop-done.store) _ c.loop-done.invariant.calm (calm_ok _ _ (λ e. cc) (λ e. cc) c.in_ok-prepare_part.ensures.keeps.cause);
 }
@@ -57,8 +57,8 @@ pub returns-in_err-prepare_part-clause-calls : goal.returns-in_err-prepare_part-
 returns-in_err-prepare_part-clause-calls g c = record {
   all = search rules;
   no_more =
-      on_err c.from_residual.result (fault_in 1 (calls_at (c.args.at + c.loop-done.done) (length c.args.bytes.now - c.loop-done.done)) (calls_at c.args.at (length c.args.bytes.now)) (g.S.CountedStore.programs c.args.store.now)
-      (g.S.CountedStore.programs c.loop-done.store) (g.S.CountedStore.programs c.prepare_part.new.store) c.loop-done.invariant.calls (some_call (c.args.at + c.loop-done.done) (length c.args.bytes.now - c.loop-done.done) (omega (arith, c.loop-done-test.true)))
+      on_err c.from_residual.result (fault_in 1 (calls_at (c.args.at + c.loop-done.done) (length c.args.bytes.now - c.loop-done.done)) (calls_at c.args.at (length c.args.bytes.now)) (g.S.CountedStore.meter c.args.store.now).programs
+      (g.S.CountedStore.meter c.loop-done.store).programs (g.S.CountedStore.meter c.prepare_part.new.store).programs c.loop-done.invariant.calls (some_call (c.args.at + c.loop-done.done) (length c.args.bytes.now - c.loop-done.done) (omega (arith, c.loop-done-test.true)))
       c.in_err-prepare_part.ensures.calls.no_more);
 }
 
@@ -66,7 +66,7 @@ pub returns-clause-calls : goal.returns-clause-calls
 returns-clause-calls g c = record {
   all =
       let none : length c.args.bytes.now - c.loop-done.done ≡ 0 = omega (arith, c.loop-done-test.false) in
-      none_left (calls_at (c.args.at + c.loop-done.done) (length c.args.bytes.now - c.loop-done.done)) (calls_at c.args.at (length c.args.bytes.now)) (g.S.CountedStore.programs c.args.store.now) (g.S.CountedStore.programs c.loop-done.store)
+      none_left (calls_at (c.args.at + c.loop-done.done) (length c.args.bytes.now - c.loop-done.done)) (calls_at c.args.at (length c.args.bytes.now)) (g.S.CountedStore.meter c.args.store.now).programs (g.S.CountedStore.meter c.loop-done.store).programs
       c.loop-done.invariant.calls (ap (λ n. calls_at (c.args.at + c.loop-done.done) n) none ∙ no_calls (c.args.at + c.loop-done.done));
   no_more = search rules;
 }

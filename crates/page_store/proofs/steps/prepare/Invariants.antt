@@ -18,6 +18,6 @@ invariant-loop-done g l = record {
   recovered : g.S.CountedStore.recovered l.store ≡ true;
   size : g.S.CountedStore.byte_count l.store ≡ g.S.CountedStore.byte_count l.initial.store;
   mark : g.S.CountedStore.store_mark l.store ≡ g.S.CountedStore.store_mark l.initial.store;
-  calls : CallsLeft (calls_at (l.fn.at + l.done) (length l.bytes - l.done)) (calls_at l.fn.at (length l.bytes)) (g.S.CountedStore.programs l.initial.store) (g.S.CountedStore.programs l.store);
+  calls : CallsLeft (calls_at (l.fn.at + l.done) (length l.bytes - l.done)) (calls_at l.fn.at (length l.bytes)) (g.S.CountedStore.meter l.initial.store).programs (g.S.CountedStore.meter l.store).programs;
   calm : IsCalm (g.S.CountedStore.meter l.initial.store) (g.S.CountedStore.meter l.store);
 }

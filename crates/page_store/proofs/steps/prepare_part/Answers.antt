@@ -33,5 +33,5 @@ returns-clause-writes g c = record {
 
 pub returns-clause-calls : goal.returns-clause-calls
 returns-clause-calls g c =
-    made_as (calls_at c.place.result (length c.args.bytes.now)) 1 (g.S.CountedStore.programs c.args.store.now) (g.S.CountedStore.programs c.prepare.new.self) c.prepare.result
+    made_as (calls_at c.place.result (length c.args.bytes.now)) 1 (g.S.CountedStore.meter c.args.store.now).programs (g.S.CountedStore.meter c.prepare.new.self).programs c.prepare.result
     (part_call c.args.table.now.entries c.args.at (length c.args.bytes.now) c.place.result c.place.ensures c.requires.part) c.prepare.ensures.calls

@@ -15,6 +15,6 @@ invariant-loop-done g l = record {
   recovered : g.S.CountedStore.recovered l.store ≡ true;
   size : g.S.CountedStore.byte_count l.store ≡ g.S.CountedStore.byte_count l.initial.store;
   mark : g.S.CountedStore.store_mark l.store ≡ g.S.CountedStore.store_mark l.initial.store;
-  calls : g.S.CountedStore.programs l.store ≡ g.S.CountedStore.programs l.initial.store;
+  calls : (g.S.CountedStore.meter l.store).programs ≡ (g.S.CountedStore.meter l.initial.store).programs;
   calm : IsCalm (g.S.CountedStore.meter l.initial.store) (g.S.CountedStore.meter l.store);
 }
