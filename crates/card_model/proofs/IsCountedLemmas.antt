@@ -71,8 +71,8 @@ calls_counted old new seen one_failure one_cut powered causes = record {
 
 given_by : (old middle : Meter) (plan : Plan) (seen : List TraceItem) (names : Bool) → names ≡ true
     → IsCounted
-      (if names then record old { plans = raised old.plans; latest = plan; plan = plan; settings = raised old.settings; is_idle = true; programs = 0 }
-      else record old { plan = plan; settings = raised old.settings; is_idle = true; programs = 0 }) middle [] seen
+    (if names then record old { plans = raised old.plans; latest = plan; plan = plan; settings = raised old.settings; is_idle = true; programs = 0 }
+    else record old { plan = plan; settings = raised old.settings; is_idle = true; programs = 0 }) middle [] seen
     → IsCounted old (plan_given middle NONE) (if names then plan ∷ [] else []) seen
 given_by old middle plan seen true is counted = record {
   failures = counted.failures;
