@@ -4,8 +4,8 @@
 
 ghost use Rattle.std.specs.Prelude.{◌≡◌, ◌↔◌, [], IfOk, OnErr};
 ghost use Rattle.boxed_applets.specs.Casts.{program_boxes};
-ghost use Rattle.uicc_run.specs.Answering.{HasLoadedOnBench, HasOuterCauses, HasRunOnBench, HasServed, KeepsToScripts, NameNoImage, RefusesUseless, ShowsPages};
-ghost use Rattle.uicc_run.specs.Pages.{AsksForNone, words_of};
+ghost use Rattle.uicc_run.specs.Answering.{AnswersAsAsked};
+ghost use Rattle.uicc_run.specs.Pages.{words_of};
 ghost use Rattle.uicc_run.specs.Worlds.{outside};
 
 use applet_trait::Applet;
@@ -50,27 +50,7 @@ fn serve<H: Files<File = File> + Eprint + AllocGlobal, R: Source, W: Sink>(
     script: &mut R,
     output: &mut W,
 ) -> Result<u8, AllocError>
-    ensures script { IfOk result (λ status. AsksForNone (words_of arguments.now) → KeepsToScripts (words_of arguments.now) status
-        (outside R.Source W.Sink script.old output.old program_boxes)
-        (outside R.Source W.Sink script.new output.new [])) }
-    ensures trace { IfOk result (λ status. AsksForNone (words_of arguments.now) → NameNoImage (words_of arguments.now)
-        → HasRunOnBench (words_of arguments.now) status
-        (outside R.Source W.Sink script.old output.old program_boxes)
-        (outside R.Source W.Sink script.new output.new [])) }
-    ensures load { IfOk result (λ status. AsksForNone (words_of arguments.now) → NameNoImage (words_of arguments.now)
-        → HasLoadedOnBench (words_of arguments.now) status
-        (outside R.Source W.Sink script.old output.old program_boxes)
-        (outside R.Source W.Sink script.new output.new [])) }
-    ensures bip { IfOk result (λ status. AsksForNone (words_of arguments.now) → HasServed (words_of arguments.now) status
-        (outside R.Source W.Sink script.old output.old program_boxes)
-        (outside R.Source W.Sink script.new output.new [])) }
-    ensures page { IfOk result (λ status. ShowsPages (words_of arguments.now) status
-        (outside R.Source W.Sink script.old output.old program_boxes)
-        (outside R.Source W.Sink script.new output.new []) (script.new ≡ script.old)) }
-    ensures usage { IfOk result (λ status. RefusesUseless (words_of arguments.now) status
-        (outside R.Source W.Sink script.old output.old program_boxes)
-        (outside R.Source W.Sink script.new output.new [])) }
-    ensures causes { IfOk result (λ status. HasOuterCauses (words_of arguments.now) status
+    ensures answers { IfOk result (λ status. AnswersAsAsked (words_of arguments.now) status
         (outside R.Source W.Sink script.old output.old program_boxes)
         (outside R.Source W.Sink script.new output.new []) (script.new ≡ script.old)) }
     // Without memory for the applets nothing is read, and nothing is written.

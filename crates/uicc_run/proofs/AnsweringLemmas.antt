@@ -1,27 +1,29 @@
 -- Runs over devices that are let go, and runs that were not begun.
-use Rattle.std.proofs.Common.{◌≡◌, ℕ, Bool, true, List, [], Option, Some, None, refl, sym, ap, ◌∙◌, inl, inr, arith, subst, ◌⊎◌}
-use Rattle.std.specs.Result.{result_ok}
-use Rattle.uicc_types.specs.Counts.{Meter, Rose}
+use Rattle.std.proofs.Common.{◌≡◌, ◌≤◌, ◌⊎◌, ℕ, ◌+◌, Bool, true, false, List, [], Option, Some, None, refl, sym, ap, ◌∙◌, inl, inr, arith, subst}
+use Rattle.uicc_types.specs.Counts.{CountsFailure, Rose}
+use Rattle.byte_streams.proofs.ReadingLemmas.{IsTaken-none}
+use Rattle.byte_streams.specs.declared.limits.TheConstants.{MOST_BYTES}
 use Rattle.script_form.specs.Reads.{IsOnly}
-use Rattle.card_model.specs.Counts.{IsCounted}
-use Rattle.command_line.specs.Model.{AskForRun, IsMadeFor, IsRequest}
-use Rattle.command_line.specs.declared.requests.Devices.{Devices}
+use Rattle.eeprom_model.specs.Bench.{new_bench}
+use Rattle.command_line.specs.Model.{AskForRun, IsRequest}
 use Rattle.command_line.specs.declared.requests.Mode.TheVariants.{Load}
 use Rattle.command_line.specs.declared.requests.Request.{Request}
-use Rattle.uicc_run.specs.Answering.{HasLoaded, HasRun, HasTrace, NameNoImage}
+use Rattle.uicc_run.specs.Answering.{AnswersAsAsked, HasLoaded, HasLoadedOnBench, HasOuterCauses, HasRun, HasRunOnBench, HasTrace, KeepsToScripts, NameNoImage, RefusesUseless}
 use Rattle.uicc_run.specs.Causes.{IsCaused, IsLoadCaused, IsSeenCause}
 use Rattle.uicc_run.specs.Endings.{HasFailed, status_for}
-use Rattle.uicc_run.specs.Headline.{Closes, Comes, Traces}
+use Rattle.uicc_run.specs.Headline.{Closes, Traces}
 use Rattle.uicc_run.specs.Loading.{LoadsFrom, TracesLoad}
-use Rattle.uicc_run.specs.Opening.{IsAskedFor}
+use Rattle.uicc_run.specs.Opening.{IsAskedFor, RunsFrom}
+use Rattle.uicc_run.specs.Pages.{AsksFor, AsksForNone, Shows}
 use Rattle.uicc_run.specs.Playing.{Given}
-use Rattle.uicc_run.specs.Running.{EndsByScript}
-use Rattle.uicc_run.specs.Worlds.{World, Seen, left_in, seen}
-use Rattle.uicc_run.specs.Scripts.{IsUndisturbed}
-use Rattle.uicc_run.specs.Stores.{IsSizeFor, size_of}
-use Rattle.uicc_run.specs.declared.endings.Ending.{Ending}
+use Rattle.uicc_run.specs.Running.{RunsAsAsked}
+use Rattle.uicc_run.specs.Stores.{mark_of, size_of}
+use Rattle.uicc_run.specs.Worlds.{World, left_in, new_meter, over_bench, seen}
 use Rattle.uicc_run.specs.declared.endings.Ending.TheVariants.{NoMemory, Usage}
-use Rattle.uicc_run.proofs.OpeningLemmas.{quiet_still}
+use Rattle.uicc_run.specs.declared.pages.Page.{Page}
+use Rattle.uicc_run.proofs.EndsForLemmas.{ends_unbegun}
+use Rattle.uicc_run.proofs.OpeningLemmas.{none_counted, not_begun}
+use Rattle.uicc_run.proofs.RunningLemmas.{ComesFor, refused, runs_so}
 
 -- ---- a run of which the device is let go
 
@@ -49,150 +51,156 @@ module _ {MemoryIsSame BoxesAreSame : Type 0} (given : Given) (status : ℕ) (be
     closes = traces.closes;
   }
 
--- ---- a run that was not begun
+-- the device that it was made over is not told of, nor are the boxes at the end
+abbrev without : World → World
+without over = record over { contents = None; meter = new_meter }
 
-still : (meter : Meter) → IsCounted meter meter [] []
-still meter = record { failures = refl; cuts = refl; plans = refl; latest = refl; in_force = refl; settings = refl }
+abbrev boxless : World → World
+boxless over = record over { contents = None; meter = new_meter; boxes = [] }
 
--- its status is that of wrong words, of a sink that failed, or of a want of memory
-abbrev IsUnbegun : ℕ → Type 0
-IsUnbegun status = (status ≡ 1) ⊎ ((status ≡ 4) ⊎ (status ≡ 5))
+module _ {ScriptIsSame MemoryIsSame BoxesAreSame : Type 0} (words : List (List ℕ)) (status : ℕ) (over over_then : World) (new : over.meter ≡ new_meter) (ran : RunsAsAsked words status over over_then ScriptIsSame MemoryIsSame BoxesAreSame) where
+  has_trace : (given : Given) (told : Bool) → RunsFrom given told words over → HasTrace given told words (seen status over over_then)
+  has_trace given told from = record { held = _; meter = _; boxes = _; trace = gone given status over over_then told words from.others_are.meter_is (ran.traces.trace given told from) }
 
-apart : (status other : ℕ) → IsUnbegun status → status ≡ other → (1 ≡ other → ⊥) → (4 ≡ other → ⊥) → (5 ≡ other → ⊥) → ⊥
-apart status other (inl one) is not_1 not_4 not_5 = not_1 (sym one ∙ is)
-apart status other (inr (inl four)) is not_1 not_4 not_5 = not_4 (sym four ∙ is)
-apart status other (inr (inr five)) is not_1 not_4 not_5 = not_5 (sym five ∙ is)
+  pub has_loaded : (given : Given) (told : Bool) (start count : ℕ) → LoadsFrom given told start count words over → HasLoaded given told start count over.taken (seen status over over_then)
+  has_loaded given told start count from = record {
+    held = _;
+    meter = _;
+    boxes = _;
+    trace = load_gone given status over over_then told start count from.over.meter_is (ran.traces.load given told start count from);
+    complete = λ card sound fixed. ran.statuses.load.load_complete given told start count card from sound fixed;
+  }
 
--- its trace is its last line
-unbegun_trace : (given : Given) (told : Bool) (words : List (List ℕ)) (seen : Seen) (before : Option (List ℕ)) (ending : Ending) → IsSeenCause words seen given.meter given.meter ending
-    → Comes given told seen.left ending (record { held = result_ok given.memory; taken = before; meter = given.meter; boxes = given.boxes }) → Closes ending before seen.taken seen.status → HasTrace given told words seen
-unbegun_trace given told words seen before ending cause comes closes = record {
-  held = result_ok given.memory;
-  meter = given.meter;
-  boxes = given.boxes;
-  trace = record { ending = ending; cause = cause; taken = before; comes = comes; closes = closes };
+  pub has_run : (given : Given) → RunsFrom given true words over → HasRun given words (seen status over over_then)
+  has_run given from = record { has = has_trace given true from; ends = ran.statuses.card given from }
+
+  begun : (given : Given) → RunsFrom given false words (without over) → RunsFrom given false words over
+  begun given told = record {
+    text_is = told.text_is;
+    others_are = record { before_is = told.others_are.before_is; memory_is = λ is. absurd (cc); meter_is = new ∙ told.others_are.meter_is; boxes_are = told.others_are.boxes_are };
+    is_asked = told.is_asked;
+  }
+
+  loads_begun : (given : Given) (start count : ℕ) → LoadsFrom given false start count words (without over) → LoadsFrom given false start count words over
+  loads_begun given start count told = record {
+    devices = told.devices;
+    words_are = told.words_are;
+    store_is = told.store_is;
+    over = record { memory_is = λ is. absurd (cc); meter_is = new ∙ told.over.meter_is; boxes_are = told.over.boxes_are };
+  }
+
+  keeps_to_scripts : KeepsToScripts words status (without over) (boxless over_then)
+  keeps_to_scripts = record {
+    trace = λ given told. has_trace given false (begun given told);
+    script = λ given told. ran.statuses.script given (begun given told);
+    taken = ran.stays.taken;
+    load = λ given start count told. has_loaded given false start count (loads_begun given start count told);
+  }
+
+  outer_causes : HasOuterCauses words status (without over) (boxless over_then) ScriptIsSame
+  outer_causes = record {
+    load_unread = ran.stays.load_unread;
+    statuses = ran.statuses.causes.statuses;
+    source_failed = ran.statuses.causes.source_failed;
+    sink_failed = ran.statuses.causes.sink_failed;
+  }
+
+  -- all that is owed then, by what it is over a new bench, if it is over one
+  pub answers_so : AsksForNone words → RefusesUseless words status (without over) (boxless over_then) → (NameNoImage words → HasRunOnBench words status (without over) (boxless over_then))
+      → (NameNoImage words → HasLoadedOnBench words status (without over) (boxless over_then)) → AnswersAsAsked words status (without over) (boxless over_then) ScriptIsSame
+  answers_so others usage runs loads = record {
+    page = record { page = λ page asks. absurd (others page asks); unread = λ page asks. absurd (others page asks) };
+    script = λ none. keeps_to_scripts;
+    trace = λ none. runs;
+    load = λ none. loads;
+    bip = λ none text asks told. ran.traces.bip text asks told;
+    usage = usage;
+    causes = outer_causes;
+  }
+
+  pub is_of_use : AskForRun words → RefusesUseless words status (without over) (boxless over_then)
+  is_of_use asks = record { usage = λ unused. absurd (unused.no_run asks); usage_only = λ one. absurd (ran.statuses.usage.usage_only one asks) }
+
+-- ---- a run that was not begun, for want of memory for its device
+
+five_or_four : (status : ℕ) → (status ≡ 5) ⊎ (status ≡ 4) → status ≡ 1 → ⊥
+five_or_four status its one = elim its [ inl five ↦ omega (arith, one, five) | inr four ↦ omega (arith, one, four) ]
+
+lacks_device : (ScriptIsSame : Type 0) (words : List (List ℕ)) (before : World) → AskForRun words → ScriptIsSame → ComesFor words NoMemory before before ScriptIsSame (Unit {0}) (Unit {0}) (Unit {0})
+lacks_device ScriptIsSame words before asks script = record {
+  comes = λ given told from. not_begun given told before.left before.taken (mark_of given.pages) _ before.meter before.boxes before.boxes from.text_is from.others_are;
+  memory = λ given told from. record { bytes = λ first kept. refl; half_made = λ some failed. absurd (cc); no_memory = λ some wanting. inl tt };
+  taken = λ text told. IsTaken-none (MOST_BYTES + 1) text before.left told;
+  load = λ given told start count taken from. none_counted given before.meter from.over.meter_is;
+  load_kept = λ given told start count from wants. inl tt;
+  load_unread = λ start count asks. (script, tt);
+  bip = λ asks. record { comes = λ text told. (told, refl); low = omega arith; memory_kept = tt; boxes_kept = tt };
+  usage = λ none. absurd (none asks);
+  usage_only = λ is. absurd (cc is);
+  ends = ends_unbegun NoMemory before (λ three. omega (arith, three)) (λ four. omega (arith, four)) (λ six. omega (arith, six)) (λ unshown. unshown) (λ early. absurd early) (λ unopened. tt);
 }
 
--- it keeps to the script by reading none of it
-unbegun : (given : Given) (words : List (List ℕ)) (seen : Seen) → IsUnbegun seen.status → (AskForRun words → IsUndisturbed seen → seen.status ≡ 5) → EndsByScript given words seen
-unbegun given words seen status wants = record {
-  good_over_any = λ asks sound good. inr (inl (wants asks sound));
-  bad_over_any = λ asks sound found bad. inr (inl (wants asks sound));
-  no_room = λ asks sound found full. inr (wants asks sound);
-  complete_only = λ is. absurd (apart seen.status 0 status is (λ e. omega (arith, e)) (λ e. omega (arith, e)) (λ e. omega (arith, e)));
-  read_out = λ is. absurd (apart seen.status 0 status is (λ e. omega (arith, e)) (λ e. omega (arith, e)) (λ e. omega (arith, e)));
-  bad_line_only = λ is. absurd (apart seen.status 2 status is (λ e. omega (arith, e)) (λ e. omega (arith, e)) (λ e. omega (arith, e)));
-  no_room_only = λ is. absurd (apart seen.status 8 status is (λ e. omega (arith, e)) (λ e. omega (arith, e)) (λ e. omega (arith, e)));
-  refused_only = λ is. absurd (apart seen.status 7 status is (λ e. omega (arith, e)) (λ e. omega (arith, e)) (λ e. omega (arith, e)));
-}
+-- ---- a run over no device, of which the same is said over any
 
-unbegun_run : (given : Given) (words : List (List ℕ)) (seen : Seen) → IsUnbegun seen.status → (AskForRun words → IsUndisturbed seen → seen.status ≡ 5) → HasTrace given true words seen → HasRun given words seen
-unbegun_run given words seen status wants has = record {
-  has = has;
-  ends = record {
-    complete = λ asks sound good can. inr (wants asks sound);
-    bad_line = λ asks sound found bad. inr (wants asks sound);
-    no_card = λ asks sound why stops. inr (wants asks sound);
-    no_card_only = λ is. absurd (apart seen.status 7 status is (λ e. omega (arith, e)) (λ e. omega (arith, e)) (λ e. omega (arith, e)));
+module _ {ScriptIsSame : Type 0} (words : List (List ℕ)) (status : ℕ) (over : World) (taken : Option (List ℕ)) (sink : ℕ)
+    (ran : (contents : Option (List ℕ)) → RunsAsAsked words status (record (without over) { contents = contents }) (record (without over) { contents = contents; taken = taken; sink = sink }) ScriptIsSame (Unit {0}) (Unit {0})) where
+  pub answers_by_none : AsksForNone words → RefusesUseless words status (without over) (record (boxless over) { taken = taken; sink = sink }) → AnswersAsAsked words status (without over) (record (boxless over) { taken = taken; sink = sink }) ScriptIsSame
+  answers_by_none others usage =
+      answers_so words status (without over) (record (without over) { taken = taken; sink = sink }) refl (ran None) others usage
+      (λ none given from. has_run words status (over_bench (size_of given.pages) (without over)) _ refl (ran (Some (new_bench (size_of given.pages)).bytes)) given from)
+      (λ none given start count from. has_loaded words status (over_bench (size_of given.pages) (without over)) _ refl (ran (Some (new_bench (size_of given.pages)).bytes)) given true start count from)
+
+-- there was no memory for one
+pub answers_unmade : (ScriptIsSame : Type 0) (words : List (List ℕ)) (status : ℕ) (over : World) (taken : Option (List ℕ)) (sink : ℕ) → ScriptIsSame → AsksForNone words → AskForRun words
+    → Closes NoMemory over.taken taken status → (status ≡ status_for NoMemory) ⊎ (status ≡ 4) → (over.sink ≤ sink) × (status ≡ 4 → (status_for NoMemory ≡ 4) ⊎ Rose over.sink sink)
+    → AnswersAsAsked words status (without over) (record (boxless over) { taken = taken; sink = sink }) ScriptIsSame
+answers_unmade ScriptIsSame words status over taken sink script others asks closes its cause =
+    answers_by_none words status over taken sink
+    (λ contents. runs_so words NoMemory status (record (without over) { contents = contents }) (record (without over) { contents = contents }) taken sink (lacks_device ScriptIsSame words (record (without over) { contents = contents }) asks script) (λ same. refl) closes its cause) others
+    (record { usage = λ unused. absurd (unused.no_run asks); usage_only = λ one. absurd (five_or_four status its one) })
+
+-- the words are in no form
+pub answers_refused : (ScriptIsSame : Type 0) (words : List (List ℕ)) (status : ℕ) (over : World) (taken : Option (List ℕ)) (sink : ℕ) → ScriptIsSame → AsksForNone words → (AskForRun words → ⊥)
+    → Closes Usage over.taken taken status → (status ≡ status_for Usage) ⊎ (status ≡ 4) → (over.sink ≤ sink) × (status ≡ 4 → (status_for Usage ≡ 4) ⊎ Rose over.sink sink)
+    → AnswersAsAsked words status (without over) (record (boxless over) { taken = taken; sink = sink }) ScriptIsSame
+answers_refused ScriptIsSame words status over taken sink script others none closes its cause =
+    answers_by_none words status over taken sink
+    (λ contents. refused ScriptIsSame (Unit {0}) (Unit {0}) words status (record (without over) { contents = contents }) taken sink script tt tt none closes its cause) others
+    (record { usage = λ unused. closes; usage_only = λ one. record { no_page = others; no_run = none } })
+
+-- ---- a page
+
+shows_low : (page : Page) (before taken : Option (List ℕ)) (status : ℕ) → Shows page before taken status → (status ≡ 0) ⊎ (status ≡ 4)
+shows_low page before taken status (inl whole) = inl whole.0
+shows_low page before taken status (inr broken) = inr broken.0
+
+pub answers_page : (ScriptIsSame : Type 0) (words : List (List ℕ)) (page : Page) (status : ℕ) (over : World) (taken : Option (List ℕ)) (sink : ℕ) → ScriptIsSame → IsOnly (AsksFor words) page
+    → Shows page over.taken taken status → CountsFailure over.sink sink (status ≡ 4) → AnswersAsAsked words status (without over) (record (boxless over) { taken = taken; sink = sink }) ScriptIsSame
+answers_page ScriptIsSame words page status over taken sink script is shows cause = record {
+  page = record { page = λ other asks. subst (λ p. Shows p over.taken taken status) (sym (is.only other asks)) shows; unread = λ other asks. script };
+  script = λ others. absurd (others page is.so);
+  trace = λ others none. absurd (others page is.so);
+  load = λ others none. absurd (others page is.so);
+  bip = λ others. absurd (others page is.so);
+  usage = record { usage = λ unused. absurd (unused.no_page page is.so); usage_only = λ one. absurd (elim (shows_low page over.taken taken status shows) [ inl zero ↦ omega (arith, one, zero) | inr four ↦ omega (arith, one, four) ]) };
+  causes = record {
+    load_unread = λ start count asks. script;
+    statuses = elim (shows_low page over.taken taken status shows) [ inl zero ↦ omega (arith, zero) | inr four ↦ omega (arith, four) ];
+    source_failed = record {
+      failed = λ three. absurd (elim (shows_low page over.taken taken status shows) [ inl zero ↦ omega (arith, three, zero) | inr four ↦ omega (arith, three, four) ]);
+      no_failure = λ other line. refl;
+      at_most_one = inl refl;
+    };
+    sink_failed = cause;
   };
 }
 
--- what a last line gives
-abbrev IsClosed : Ending → Seen → Type 0
-IsClosed ending seen = (seen.status ≡ status_for ending) ⊎ (seen.status ≡ 4)
+-- ---- the size of the device is that of the store that is asked for
 
-abbrev HasSunk : Ending → Seen → Type 0
-HasSunk ending seen = seen.status ≡ 4 → (status_for ending ≡ 4) ⊎ Rose seen.sink seen.sink_then
+pub size_given : (given : Given) (words : List (List ℕ)) (asked : Request) (size : ℕ) → IsOnly (IsRequest words) asked → size ≡ size_of asked.devices.pages → ((other : Request) → IsRequest words other → IsAskedFor given other) → size_of given.pages ≡ size
+size_given given words asked size is same wish = ap size_of (wish asked is.so).store_is ∙ sym same
 
-wanting_status : (seen : Seen) → IsClosed NoMemory seen → IsUnbegun seen.status
-wanting_status seen (inl five) = inr (inr five)
-wanting_status seen (inr four) = inr (inl four)
-
-not_sunk : (seen : Seen) (ending : Ending) → (status_for ending ≡ 4 → ⊥) → HasSunk ending seen → IsUndisturbed seen → seen.status ≡ 4 → ⊥
-not_sunk seen ending other sunk sound four =
-    elim (sunk four) [
-      | inl its ↦ other its
-      | inr rose ↦ sound.sink_sound rose
-    ]
-
-wants_so : (seen : Seen) → IsClosed NoMemory seen → HasSunk NoMemory seen → IsUndisturbed seen → seen.status ≡ 5
-wants_so seen (inl five) sunk sound = five
-wants_so seen (inr four) sunk sound = absurd (not_sunk seen NoMemory (λ e. omega (arith, e)) sunk sound four)
-
-usage_status : (seen : Seen) → IsClosed Usage seen → IsUnbegun seen.status
-usage_status seen (inl one) = inl one
-usage_status seen (inr four) = inr (inl four)
-
--- there was no memory for the device
-pub ends_without_device : (seen : Seen) (given : Given) (words : List (List ℕ)) → IsClosed NoMemory seen → HasSunk NoMemory seen → EndsByScript given words seen
-ends_without_device seen given words closed sunk = unbegun given words seen (wanting_status seen closed) (λ asks sound. wants_so seen closed sunk sound)
-
--- the words are in no form
-pub ends_without_words : (seen : Seen) (given : Given) (words : List (List ℕ)) → (AskForRun words → ⊥) → IsClosed Usage seen → EndsByScript given words seen
-ends_without_words seen given words none closed = unbegun given words seen (usage_status seen closed) (λ asks sound. absurd (none asks))
-
-module _ (seen : Seen) (before : Option (List ℕ)) where
-  pub no_device : (given : Given) (told : Bool) (words : List (List ℕ)) → before ≡ given.before → seen.left ≡ Some given.text → Closes NoMemory before seen.taken seen.status → HasTrace given told words seen
-  no_device given told words begun unread closes =
-      unbegun_trace given told words seen before NoMemory
-      (record { usage = λ is. absurd (cc); read_failed = λ is. absurd (omega arith); eeprom_failed = λ is. absurd (omega arith) })
-      (record { written = begun; counted = still given.meter; begun_at_most = inl unread; memory_kept = λ tells. inl refl }) closes
-
-  pub has_no_device : (given : Given) (words : List (List ℕ)) → IsClosed NoMemory seen → HasSunk NoMemory seen → before ≡ given.before → seen.left ≡ Some given.text
-      → Closes NoMemory before seen.taken seen.status → HasRun given words seen
-  has_no_device given words closed sunk begun unread closes =
-      unbegun_run given words seen (wanting_status seen closed) (λ asks sound. wants_so seen closed sunk sound) (no_device given true words begun unread closes)
-
-  pub loads_no_device : (given : Given) (told : Bool) (start count : ℕ) → IsClosed NoMemory seen → HasSunk NoMemory seen → Closes NoMemory before seen.taken seen.status → HasLoaded given told start count before seen
-  loads_no_device given told start count closed sunk closes = record {
-    held = result_ok given.memory;
-    meter = given.meter;
-    boxes = given.boxes;
-    trace = record {
-      ending = NoMemory;
-      cause = λ is. absurd (omega arith);
-      comes = still given.meter;
-      closes = closes;
-    };
-    complete = λ card sound fixed. inr (inl (wants_so seen closed sunk sound));
-  }
-
-  pub no_words : (given : Given) (told : Bool) (words : List (List ℕ)) → (AskForRun words → ⊥) → before ≡ given.before → Closes Usage before seen.taken seen.status → HasTrace given told words seen
-  no_words given told words none begun closes =
-      unbegun_trace given told words seen before Usage
-      (record { usage = λ is. none; read_failed = λ is. absurd (omega arith); eeprom_failed = λ is. absurd (omega arith) })
-      (quiet_still given before (result_ok given.memory) given.meter given.boxes begun refl) closes
-
-  pub has_no_words : (given : Given) (words : List (List ℕ)) → (AskForRun words → ⊥) → IsClosed Usage seen → before ≡ given.before
-      → Closes Usage before seen.taken seen.status → HasRun given words seen
-  has_no_words given words none closed begun closes = unbegun_run given words seen (usage_status seen closed) (λ asks sound. absurd (none asks)) (no_words given true words none begun closes)
-
-pub loads_run : (given : Given) (told : Bool) (start count : ℕ) (words : List (List ℕ)) (before : World) → LoadsFrom given told start count words before → AskForRun words
-loads_run given told start count words before from = (record { mode = Load start count; devices = from.devices }, from.words_are)
-
--- a run is made over some devices
-pub asks_for_devices : (words : List (List ℕ)) → ((found : Devices) → IsMadeFor words found → ⊥) → AskForRun words → ⊥
-asks_for_devices words none asks = none asks.0.devices (record { asked = asks.0; words_are = asks.1; devices = refl })
-
-pub devices_are_asked : (words : List (List ℕ)) (made : Devices) → IsOnly (IsMadeFor words) made → AskForRun words
-devices_are_asked words made found = (found.so.asked, found.so.words_are)
-
-pub no_image : (words : List (List ℕ)) (made : Devices) → IsOnly (IsMadeFor words) made → NameNoImage words → made.image ≡ None
-no_image words made found none = ap (λ d. d.image) found.so.devices ∙ none found.so.asked found.so.words_are
-
--- the store of a run is that of its devices, and so is the size
-made_alone : (words : List (List ℕ)) (made : Devices) (asked : Request) → IsOnly (IsMadeFor words) made → IsRequest words asked → asked.devices ≡ made
-made_alone words made asked found is = found.only asked.devices (record { asked = asked; words_are = is; devices = refl })
-
-pub fits_run : (words : List (List ℕ)) (made : Devices) (size : ℕ) → IsOnly (IsMadeFor words) made → size ≡ size_of made.pages → IsSizeFor words size
-fits_run words made size found same asked is = same ∙ ap (λ d. size_of d.pages) (sym (made_alone words made asked found is))
-
-pub size_given : (given : Given) (words : List (List ℕ)) (made : Devices) (size : ℕ) → IsOnly (IsMadeFor words) made → size ≡ size_of made.pages → ((asked : Request) → IsRequest words asked → IsAskedFor given asked) → size_of given.pages ≡ size
-size_given given words made size found same asked =
-    let wish = asked found.so.asked found.so.words_are in
-    ap size_of wish.store_is ∙ ap (λ d. size_of d.pages) (sym found.so.devices) ∙ sym same
-
-pub load_size_given : (given : Given) (told : Bool) (start count : ℕ) (words : List (List ℕ)) (made : Devices) (size : ℕ) (before : World) → IsOnly (IsMadeFor words) made → size ≡ size_of made.pages
+pub load_size_given : (given : Given) (told : Bool) (start count : ℕ) (words : List (List ℕ)) (asked : Request) (size : ℕ) (before : World) → IsOnly (IsRequest words) asked → size ≡ size_of asked.devices.pages
     → LoadsFrom given told start count words before → size_of given.pages ≡ size
-load_size_given given told start count words made size before found same from =
-    ap size_of from.store_is ∙ ap (λ d. size_of d.pages) (made_alone words made (record { mode = Load start count; devices = from.devices }) found from.words_are) ∙ sym same
+load_size_given given told start count words asked size before is same from =
+    ap size_of (from.store_is ∙ ap (λ (r : Request). r.devices.pages) (is.only (record { mode = Load start count; devices = from.devices }) from.words_are)) ∙ sym same

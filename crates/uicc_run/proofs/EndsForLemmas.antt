@@ -1,13 +1,13 @@
 -- A run whose card was open ends as its lines do.
-use Rattle.std.proofs.Common.{◌≡◌, ℕ, List, Option, Result, Ok, Err, refl, sym, ap, subst, inl, is_some, IsErr}
+use Rattle.std.proofs.Common.{◌≡◌, ℕ, Result, Ok, Err, refl, sym, ap, subst, arith, inl, is_some, IsErr}
 use Rattle.uicc_types.specs.Counts.{CountsFailure, Meter, Rose}
 use Rattle.byte_streams.specs.Streams.{CountsEach}
 use Rattle.script_reader.specs.declared.behind.PlayEnd.{PlayEnd}
 use Rattle.script_reader.specs.declared.behind.PlayEnd.TheVariants as play
 use Rattle.long_runs.specs.declared.counts.Counts.{Counts}
 use Rattle.run_steps.specs.declared.steps.MemoryFailed.{MemoryFailed}
-use Rattle.uicc_run.specs.Making.{EndsFor, EndsLoad, ending_for_load}
-use Rattle.uicc_run.specs.Endings.{status_for}
+use Rattle.uicc_run.specs.Making.{EndsFor, EndsLoad, IsUnshown, ending_for_load}
+use Rattle.uicc_run.specs.Endings.{IsEarly, IsUnopened, status_for}
 use Rattle.uicc_run.specs.Worlds.{World}
 use Rattle.uicc_run.specs.declared.endings.Ending.{Ending}
 use Rattle.uicc_run.specs.declared.endings.Ending.TheVariants.{Played}
@@ -40,22 +40,19 @@ ends_played end before after TraceIsSame BoxesAreSame source sink memory tells =
   boxes = λ none. absurd none;
 }
 
--- and one over a device as over the store that was made over it
-pub ends_on : (ending : Ending) (before after : World) (old new : Option (List ℕ)) (first last : Meter) (TraceIsSame StoreIsSame MemoryIsSame BoxesAreSame : Type 0) → first ≡ before.meter → last ≡ after.meter → (StoreIsSame → MemoryIsSame)
-    → EndsFor ending (record before { contents = old; meter = first }) (record after { contents = new; meter = last }) TraceIsSame StoreIsSame BoxesAreSame → EndsFor ending before after TraceIsSame MemoryIsSame BoxesAreSame
-ends_on ending before after old new first last TraceIsSame StoreIsSame MemoryIsSame BoxesAreSame first_is last_is same ends =
-    let on = subst (λ m. EndsFor ending (record before { contents = old; meter = m }) (record after { contents = new }) TraceIsSame StoreIsSame BoxesAreSame) first_is
-    (subst (λ m. EndsFor ending (record before { contents = old; meter = first }) (record after { contents = new; meter = m }) TraceIsSame StoreIsSame BoxesAreSame) last_is ends) in
-    record {
-      source_cause = on.source_cause;
-      sink_cause = on.sink_cause;
-      memory_cause = on.memory_cause;
-      reset_cause = on.reset_cause;
-      tells = on.tells;
-      unshown = on.unshown;
-      untouched = λ early. same (on.untouched early);
-      boxes = on.boxes;
-    }
+-- A run that ended before anything was done, for none of its devices.
+pub ends_unbegun : {TraceIsSame MemoryIsSame BoxesAreSame : Type 0} → (ending : Ending) (world : World) → (status_for ending ≡ 3 → ⊥) → (status_for ending ≡ 4 → ⊥) → (status_for ending ≡ 6 → ⊥) → (IsUnshown ending → ⊥) → (IsEarly ending → MemoryIsSame) → (IsUnopened ending → BoxesAreSame)
+    → EndsFor ending world world TraceIsSame MemoryIsSame BoxesAreSame
+ends_unbegun ending world not_3 not_4 not_6 shown memory boxes = record {
+  source_cause = record { failed = λ three. absurd (not_3 three); no_failure = λ other. refl };
+  sink_cause = record { kept = omega arith; rose = λ four. absurd (not_4 four) };
+  memory_cause = λ six. absurd (not_6 six);
+  reset_cause = λ is. absurd (not_6 (ap status_for is));
+  tells = refl;
+  unshown = λ unshown. absurd (shown unshown);
+  untouched = memory;
+  boxes = boxes;
+}
 
 -- a long run ends with its counts, or for its memory
 ends_so : (lines : ℕ) (outcome : Result Counts MemoryFailed) (old new : Meter) (BoxesAreSame : Type 0) → (IsErr outcome → Rose old.faults new.faults) → EndsLoad (ending_for_load lines outcome) old new ⊥ BoxesAreSame

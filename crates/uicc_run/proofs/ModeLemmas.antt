@@ -2,9 +2,7 @@
 use Rattle.std.proofs.Common.{◌≡◌, ℕ, Bool, Some, sym, ap, ◌∙◌, subst, inl, inr, ◌⊎◌}
 use Rattle.card_state.specs.Sections.{bare_card}
 use Rattle.command_line.specs.declared.requests.Mode.{Mode}
-use Rattle.command_line.specs.declared.requests.Mode.TheVariants.{Play, Open, Phone, Load, Bip}
-use Rattle.command_line.specs.declared.requests.Devices.{Devices}
-use Rattle.command_line.specs.declared.requests.Request.{Request}
+use Rattle.command_line.specs.declared.requests.Mode.TheVariants.{Play, Phone, Load, Bip}
 use Rattle.command_line.specs.declared.requests.Transport.{Transport}
 use Rattle.uicc_run.specs.Opening.{ReadsForCard, first_of}
 use Rattle.uicc_run.specs.Loading.{ComesToLoad}
@@ -27,38 +25,20 @@ no_load asked start count is reads = subst ReadsForCard is reads
 pub no_bip : (asked : Mode) → asked ≡ Bip → ReadsForCard asked → ⊥
 no_bip asked is reads = subst ReadsForCard is reads
 
-abbrev load_request : ℕ → ℕ → Devices → Request
-load_request start count devices = record { mode = Load start count; devices = devices }
+-- a run of a script is no long run, nor that of a terminal's channels
+pub not_load : (start count : ℕ) (asked : Mode) → asked ≡ Load start count → MakesCard asked → ⊥
+not_load start count asked same (inl is) = let differ : Load start count ≡ Play = sym same ∙ is in cc
+not_load start count asked same (inr is) = let differ : Load start count ≡ Phone is.0 = sym same ∙ is.1 in cc
 
--- a run of a script is no long run
-pub not_load : (start count : ℕ) (devices : Devices) (asked : Request) → load_request start count devices ≡ asked → MakesCard asked.mode → ⊥
-not_load start count devices asked same (inl is) = let mode : Load start count ≡ Play = ap (λ (r : Request). r.mode) same ∙ is in cc
-not_load start count devices asked same (inr is) = let mode : Load start count ≡ Phone is.0 = ap (λ (r : Request). r.mode) same ∙ is.1 in cc
+pub not_bip : (asked : Mode) → asked ≡ Bip → MakesCard asked → ⊥
+not_bip asked same (inl is) = let differ : Bip ≡ Play = sym same ∙ is in cc
+not_bip asked same (inr is) = let differ : Bip ≡ Phone is.0 = sym same ∙ is.1 in cc
 
-pub not_load_open : (start count : ℕ) (devices : Devices) (asked : Request) → load_request start count devices ≡ asked → asked.mode ≡ Open → ⊥
-not_load_open start count devices asked same is = let mode : Load start count ≡ Open = ap (λ (r : Request). r.mode) same ∙ is in cc
-
-pub not_load_bip : (start count : ℕ) (devices : Devices) (asked : Request) → load_request start count devices ≡ asked → asked.mode ≡ Bip → ⊥
-not_load_bip start count devices asked same is = let mode : Load start count ≡ Bip = ap (λ (r : Request). r.mode) same ∙ is in cc
-
-abbrev bip_request : Devices → Request
-bip_request devices = record { mode = Bip; devices = devices }
-
-pub not_bip : (devices : Devices) (asked : Request) → bip_request devices ≡ asked → MakesCard asked.mode → ⊥
-not_bip devices asked same (inl is) = let mode : Bip ≡ Play = ap (λ (r : Request). r.mode) same ∙ is in cc
-not_bip devices asked same (inr is) = let mode : Bip ≡ Phone is.0 = ap (λ (r : Request). r.mode) same ∙ is.1 in cc
-
-pub not_bip_open : (devices : Devices) (asked : Request) → bip_request devices ≡ asked → asked.mode ≡ Open → ⊥
-not_bip_open devices asked same is = let mode : Bip ≡ Open = ap (λ (r : Request). r.mode) same ∙ is in cc
-
-pub not_bip_load : (start count : ℕ) (devices : Devices) (asked : Request) → bip_request devices ≡ asked → asked.mode ≡ Load start count → ⊥
-not_bip_load start count devices asked same is = let mode : Bip ≡ Load start count = ap (λ (r : Request). r.mode) same ∙ is in cc
-
--- a long run is that of its words
-pub the_load : (given : Given) (told : Bool) (start count start_too count_too : ℕ) (devices : Devices) (asked : Request) (ending : Ending) (leaves : Leaves) → load_request start count devices ≡ asked → asked.mode ≡ Load start_too count_too
+-- a long run is the one that was asked for
+pub the_load : (given : Given) (told : Bool) (start count start_too count_too : ℕ) (asked : Mode) (ending : Ending) (leaves : Leaves) → asked ≡ Load start count → asked ≡ Load start_too count_too
     → ComesToLoad given told start_too count_too ending leaves → ComesToLoad given told start count ending leaves
-the_load given told start count start_too count_too devices asked ending leaves same is comes =
-    let both : Load start count ≡ Load start_too count_too = ap (λ (r : Request). r.mode) same ∙ is in
+the_load given told start count start_too count_too asked ending leaves same is comes =
+    let both : Load start count ≡ Load start_too count_too = sym same ∙ is in
     let start_is : start ≡ start_too = cc in
     let count_is : count ≡ count_too = cc in
     subst (λ s. ComesToLoad given told s count ending leaves) (sym start_is) (subst (λ k. ComesToLoad given told start_too k ending leaves) (sym count_is) comes)

@@ -1,5 +1,5 @@
 -- What an undisturbed run comes to, by its script and the card that is to be opened.
-use Rattle.std.proofs.Common.{◌≡◌, ℕ, ◌<◌, Bool, true, false, List, [], ◌∷◌, ◌++◌, Option, Some, None, is_some, Result, Ok, Err, refl, sym, ap, ◌∙◌, inl, inr, ⊎_elim, arith, subst, ◌⊎◌, All, IfSome, if◌then◌else◌, append-nil}
+use Rattle.std.proofs.Common.{◌≡◌, ℕ, ◌<◌, ◌≤◌, Bool, true, false, List, [], ◌∷◌, ◌++◌, Option, Some, None, is_some, Result, Ok, Err, refl, sym, ap, ◌∙◌, inl, inr, ⊎_elim, arith, subst, ◌⊎◌, All, IfSome, if◌then◌else◌, append-nil}
 use Rattle.std.specs.Io.KnownBytes.{append_known}
 use Rattle.std.proofs.lemmas.Bool.{cases_order}
 use Rattle.std.proofs.lemmas.List.Elements.{All-contains, All-nil}
@@ -28,7 +28,7 @@ use Rattle.run_steps.specs.Views.{CardView, ItsPower, TheCard}
 use Rattle.phone_runs.specs.Lines.{PhoneEnds}
 use Rattle.bip_runs.proofs.IsLineLemmas.{Only, only_first, only_last, only_says, says_itself}
 use Rattle.uicc_run.specs.Making.{IsUnshown}
-use Rattle.uicc_run.specs.Endings.{status_for}
+use Rattle.uicc_run.specs.Endings.{IsEarly, status_for}
 use Rattle.uicc_run.specs.Headline.{Closes, Comes, IsNoCard, IsNotOpened, LacksBox, is_known, last_text}
 use Rattle.uicc_run.specs.Playing.{AreReadInPlace, EndsSo, Given, IsFirst, IsOpened, Leaves, first_machine, ComesTo, ServedComesTo, beginning}
 use Rattle.uicc_run.proofs.ReadingLemmas.{EndsBehind, HasStarted, has_started, reads_played, reads_served}
@@ -528,22 +528,32 @@ by_status (Played play.ResetFailed) = record { one = λ is. absurd (cc is); five
 by_status LoadFailed = record { one = λ is. absurd (cc is); five = λ is. absurd (cc is); six = λ is. inr (tt, refl) }
 by_status other = record { one = λ is. absurd (cc is); five = λ is. absurd (cc is); six = λ is. absurd (cc is) }
 
--- a run that ends with 5 ends for that, also where a failing sink would end it with 4
+-- a status other than 4 is that of the end: a failing sink would make it 4
+pub own_is : (ending : Ending) (status wanted : ℕ) → (status ≡ status_for ending) ⊎ (status ≡ 4) → status ≡ wanted → (4 ≡ wanted → ⊥) → status_for ending ≡ wanted
+own_is ending status wanted closed is other = ⊎_elim {C = status_for ending ≡ wanted} (λ own. sym own ∙ is) (λ four. absurd (other (sym four ∙ is))) closed
+
 pub five_is : (ending : Ending) (status : ℕ) → (status ≡ status_for ending) ⊎ (status ≡ 4) → status ≡ 5 → ending ≡ NoMemory
-five_is ending status closed is = ⊎_elim {C = ending ≡ NoMemory} (λ own. (by_status ending).five (sym own ∙ is)) (λ four. absurd (omega (arith, four, is))) closed
+five_is ending status closed is = (by_status ending).five (own_is ending status 5 closed is (λ e. omega (arith, e)))
+
+pub one_is : (ending : Ending) (status : ℕ) → (status ≡ status_for ending) ⊎ (status ≡ 4) → status ≡ 1 → ending ≡ Usage
+one_is ending status closed is = (by_status ending).one (own_is ending status 1 closed is (λ e. omega (arith, e)))
 
 -- a run that ends with 7 was asked for
 pub not_usage : (ending : Ending) (status : ℕ) → (status ≡ status_for ending) ⊎ (status ≡ 4) → status ≡ 7 → ending ≡ Usage → ⊥
 not_usage ending status closed seven usage =
-    ⊎_elim {C = ⊥} (λ own. let one : status ≡ 1 = own ∙ ap status_for usage in omega (arith, seven, one)) (λ four. omega (arith, seven, four)) closed
+    let one : status_for ending ≡ 1 = ap status_for usage in
+    let own = own_is ending status 7 closed seven (λ e. omega (arith, e)) in omega (arith, own, one)
 
--- a run that ends with 1 ends for its words
-pub one_is : (ending : Ending) (status : ℕ) → (status ≡ status_for ending) ⊎ (status ≡ 4) → status ≡ 1 → ending ≡ Usage
-one_is ending status closed is = ⊎_elim {C = ending ≡ Usage} (λ own. (by_status ending).one (sym own ∙ is)) (λ four. absurd (omega (arith, four, is))) closed
+-- no status is greater than 8, and with 8 nothing was done to the memory
+pub at_most_8 : (ending : Ending) → status_for ending ≤ 8
+at_most_8 (Section (script.BadLine number)) = omega arith
+at_most_8 (Played play.ResetFailed) = omega arith
+at_most_8 other = omega arith
 
--- only a run whose script can't be read on ends with 3
-pub three_is : (ending : Ending) (status : ℕ) → (status ≡ status_for ending) ⊎ (status ≡ 4) → status ≡ 3 → status_for ending ≡ 3
-three_is ending status closed is = ⊎_elim {C = status_for ending ≡ 3} (λ own. sym own ∙ is) (λ four. absurd (omega (arith, four, is))) closed
+pub eight_is_early : (ending : Ending) → status_for ending ≡ 8 → IsEarly ending
+eight_is_early (Section fault) is = tt
+eight_is_early (Played play.ResetFailed) is = absurd (cc is)
+eight_is_early other is = absurd (cc is)
 
 -- a fault was counted in a reset, or nothing was shown but the last line
 pub six_shows : (ending : Ending) (start before taken : Option (List ℕ)) (status : ℕ) (HasFault : Type 0) → Closes ending before taken status → (ending ≡ Played play.ResetFailed → HasFault) → (IsUnshown ending → before ≡ start) → status ≡ 6

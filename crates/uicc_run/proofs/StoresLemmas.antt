@@ -1,17 +1,6 @@
 -- What is said of one of the two stores is said of its device.
-use Rattle.std.proofs.Common.{◌≡◌, Bool, sym, subst, inr}
-use Rattle.uicc_run.specs.Causes.{KeepsMemory}
-use Rattle.uicc_run.specs.Making.{KeepsContent}
-use Rattle.uicc_run.specs.Playing.{Given}
-use Rattle.uicc_run.specs.Stores.{content_in, held_in}
-use Rattle.uicc_run.specs.Worlds.{World}
-use Rattle.uicc_run.specs.declared.endings.Ending.{Ending}
+use Rattle.std.proofs.Common.{◌≡◌, Bool, sym, subst}
 
--- by which store was asked for, and by the device that it is made over
-pub read_off : {E : Type 0} (P : Bool → E → Type 0) (asked pages : Bool) (device made : E) → asked ≡ pages → device ≡ made → P pages made → P asked device
-read_off P asked pages device made over same is = subst (λ p. P p device) (sym over) (subst (P pages) (sym same) is)
-
--- what becomes of the store's content is what the device keeps
-pub memory_kept : (given : Given) (ending : Ending) (before after : World) (MemoryIsSame : Type 0) → KeepsContent given ending (held_in given.pages before.contents) (content_in given.pages before.contents) (content_in given.pages after.contents)
-    → KeepsMemory given ending before after MemoryIsSame
-memory_kept given ending before after MemoryIsSame kept = record { bytes = kept.bytes; half_made = kept.half_made; no_memory = λ some wants. inr (kept.no_memory some wants) }
+-- by which store was asked for, and by the device that it was made over and the one that it gave back
+pub of_device : {E : Type 0} (P : Bool → E → E → Type 0) (asked pages : Bool) (device made left given_back : E) → asked ≡ pages → made ≡ device → given_back ≡ left → P pages made left → P asked device given_back
+of_device P asked pages device made left given_back over begun ended is = subst (λ p. P p device given_back) (sym over) (subst (P pages device) (sym ended) (subst (λ e. P pages e left) begun is))

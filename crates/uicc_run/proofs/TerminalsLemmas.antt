@@ -1,5 +1,5 @@
 -- What the run of a terminal's channels comes to.
-use Rattle.std.proofs.Common.{◌≡◌, ◌⊎◌, ◌≤◌, ℕ, List, [], Option, Some, refl, inl, inr, arith}
+use Rattle.std.proofs.Common.{◌≡◌, ◌⊎◌, ◌≤◌, ℕ, List, [], Option, Some, inl, inr, arith}
 use Rattle.std.specs.Io.KnownBytes.{append_known}
 use Rattle.uicc_types.specs.Counts.{Rose}
 use Rattle.byte_streams.specs.Lines.{LineList}
@@ -9,7 +9,7 @@ use Rattle.command_line.specs.declared.requests.Mode.TheVariants.{Bip}
 use Rattle.bip_runs.proofs.ScriptsLemmas.{bad_ends_not, bad_stops_there, end_was_good, good_stops_not, stop_was_bad}
 use Rattle.bip_runs.specs.Serving.{BipComesTo, IsFirstBadBip, IsGoodBip}
 use Rattle.uicc_run.specs.Endings.{status_for}
-use Rattle.uicc_run.specs.Headline.{Closes, last_text}
+use Rattle.uicc_run.specs.Headline.{last_text}
 use Rattle.uicc_run.specs.Running.{ServesToEnd}
 use Rattle.uicc_run.specs.Worlds.{World, Seen, seen}
 use Rattle.uicc_run.specs.Scripts.{StopsAndTells, TellsNext}
@@ -114,16 +114,4 @@ serves_to_end words status before after traced low read put = record {
       bip_stops_bad text before.taken (seen status before after) found (traced text asks told) bad (λ three. sound.source_sound (read three)) (λ four. sound.sink_sound (put four));
   bip_complete_only = λ text asks told zero. bip_zero text before.taken (seen status before after) (traced text asks told) zero;
   bip_bad_line_only = λ text asks told two. bip_two text before.taken (seen status before after) (traced text asks told) two;
-}
-
--- ---- where no run was begun
-
--- there was no memory for the device
-pub bip_no_device : (text : List ℕ) (before : Option (List ℕ)) (seen : Seen) → seen.left ≡ Some text → Closes NoMemory before seen.taken seen.status → TracesBip text before seen
-bip_no_device text before seen is closes = record {
-  ending = NoMemory;
-  cause = record { read_failed = λ three. absurd (cc); sink_failed = λ four. absurd (cc) };
-  put = before;
-  comes = (is, refl);
-  closes = closes;
 }

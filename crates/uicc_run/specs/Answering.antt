@@ -13,7 +13,7 @@ use Rattle.uicc_run.specs.Endings.{HasFailed, status_for}
 use Rattle.uicc_run.specs.Headline.{Closes, Traces}
 use Rattle.uicc_run.specs.Loading.{AskToLoad, IsFixedCard, LoadsFrom, TracesLoad}
 use Rattle.uicc_run.specs.Opening.{RunsFrom}
-use Rattle.uicc_run.specs.Pages.{AsksFor, IsNoUse, Shows}
+use Rattle.uicc_run.specs.Pages.{AsksFor, AsksForNone, IsNoUse, Shows}
 use Rattle.uicc_run.specs.Playing.{Given}
 use Rattle.uicc_run.specs.Running.{EndsByCard, EndsByScript}
 use Rattle.uicc_run.specs.Scripts.{IsUndisturbed}
@@ -90,3 +90,16 @@ pub record HasOuterCauses (words : List (List ℕ)) (status : ℕ) (before after
   pub statuses : status ≤ 8
   pub source_failed : CountsOnce before.source after.source (status ≡ 3)
   pub sink_failed : CountsFailure before.sink after.sink (status ≡ 4)
+
+-- What the program owes for its words, its status and what is seen before and after. A page is written and nothing is read. All other words
+-- are those of a run: over any memory, an image too, it says which scripts are carried out, and what a status says of one; over a new memory
+-- of the bench, with power and without a plan, the trace, and the counts of a long run; and the trace of a terminal's channels. Words
+-- in no form are refused. Each status has its cause. `ScriptIsSame` says that the script is as it was.
+pub record AnswersAsAsked (words : List (List ℕ)) (status : ℕ) (before after : World) (ScriptIsSame : Type 0) : Type 0 where
+  pub page : ShowsPages words status before after ScriptIsSame
+  pub script : AsksForNone words → KeepsToScripts words status before after
+  pub trace : AsksForNone words → NameNoImage words → HasRunOnBench words status before after
+  pub load : AsksForNone words → NameNoImage words → HasLoadedOnBench words status before after
+  pub bip : AsksForNone words → HasServed words status before after
+  pub usage : RefusesUseless words status before after
+  pub causes : HasOuterCauses words status before after ScriptIsSame

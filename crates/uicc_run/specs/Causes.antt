@@ -1,7 +1,8 @@
 -- Why a run ends as it does, and what it leaves alone.
-use Rattle.std.specs.Prelude.{◌≡◌, ◌⊎◌, ◌≤◌, ℕ, true, List, None, is_some, length}
+use Rattle.std.specs.Prelude.{◌≡◌, ◌⊎◌, ◌≤◌, ℕ, true, List, Option, None, is_some, length}
 use Rattle.uicc_types.specs.Counts.{Meter, Rose}
 use Rattle.card_state.specs.declared.sizes.TheConstants.{ROW_COUNT}
+use Rattle.card_state.specs.Persistent.{Persistent}
 use Rattle.command_line.specs.Model.{AskForRun}
 use Rattle.uicc_run.specs.Endings.{HasFailed, IsEarly, IsUnopened, KeepsBytes, status_for}
 use Rattle.uicc_run.specs.Loading.{HoldsFixed}
@@ -19,17 +20,19 @@ pub record FitsRun {B : Type 0} (words : List (List ℕ)) (byte_count : ℕ) (ca
 
 -- ---- what the memory holds where no card was opened
 
--- In `open` each byte that the store stands for is as it was, where the run ended for want of memory, for a card that is none or that lacks a
--- box, or where the memory failed or lost power and held no card. Where a card is made: if the memory failed or lost power in that, the first
--- eight of these bytes are the old ones, or it holds just that card; and if there was no memory for the rest, the device is as it was, or it
--- holds just that card. Of the bytes of a memory that tells none, this says nothing.
-pub record KeepsMemory (given : Given) (ending : Ending) (before after : World) (MemoryIsSame : Type 0) : Type 0 where
-  pub bytes : given.first ≡ None → KeepsBytes ending (held_in given.pages before.contents)
-      → content_in given.pages after.contents ≡ content_in given.pages before.contents
-  pub half_made : is_some given.first ≡ true → ending ≡ FormatFailed
-      → IsHalfMade given (content_in given.pages before.contents) (content_in given.pages after.contents)
-  pub no_memory : is_some given.first ≡ true → ending ≡ NoMemory
-      → MemoryIsSame ⊎ HoldsDescribed given (content_in given.pages after.contents)
+-- Of a store that stood for this card, or for none, and for these bytes: in `open` each of them is as it was, where the run ended for want of
+-- memory, for a card that is none or that lacks a box, or where the memory failed or lost power and held no card. Where a card is made: if the
+-- memory failed or lost power in that, the first eight of these bytes are the old ones, or it holds just that card; and if there was no memory for
+-- the rest, it is as it was, or it holds just that card. Of the bytes of a memory that tells none, this says nothing.
+pub record KeepsContent (given : Given) (ending : Ending) (held : Option Persistent) (old new : Option (List ℕ)) (IsSame : Type 0) : Type 0 where
+  pub bytes : given.first ≡ None → KeepsBytes ending held → new ≡ old
+  pub half_made : is_some given.first ≡ true → ending ≡ FormatFailed → IsHalfMade given old new
+  pub no_memory : is_some given.first ≡ true → ending ≡ NoMemory → IsSame ⊎ HoldsDescribed given new
+
+-- the same of the device of a store
+abbrev pub KeepsMemory : Given → Ending → World → World → Type 0 → Type 0
+KeepsMemory given ending before after MemoryIsSame =
+    KeepsContent given ending (held_in given.pages before.contents) (content_in given.pages before.contents) (content_in given.pages after.contents) MemoryIsSame
 
 -- ---- of a run whose trace is told
 

@@ -8,7 +8,6 @@ pub mod Headline
 pub mod Loading
 pub mod Making
 pub mod Opening
-pub mod OverDevices
 pub mod Pages
 pub mod Playing
 pub mod Running

@@ -1,7 +1,9 @@
 -- What the functions inside a run say of it, from the words to the lines after `start`. A whole run is told without it.
-use Rattle.std.specs.Prelude.{◌≡◌, ◌≢◌, ◌⊎◌, ◌≤◌, ℕ, Bool, true, List, [], length, Option, Some, None, Result, Ok, Err, IfSome, is_some}
+use Rattle.std.specs.Prelude.{◌≡◌, ◌≢◌, ◌⊎◌, ◌≤◌, ◌+◌, ℕ, Bool, true, List, [], length, Option, Some, None, Result, Ok, Err, IfSome, is_some, option_map}
 use Rattle.uicc_types.specs.Counts.{Meter, Caused, CountsFailure, Rose}
 use Rattle.byte_streams.specs.Streams.{CountsEach}
+use Rattle.byte_streams.specs.Reading.{IsTaken}
+use Rattle.byte_streams.specs.declared.limits.TheConstants.{MOST_BYTES}
 use Rattle.byte_streams.specs.declared.streams.Sink.{Ghosts as SinkWords}
 use Rattle.byte_streams.specs.declared.streams.Source.{Ghosts as SourceWords}
 use Rattle.script_form.specs.declared.lines.ScriptLine.{ScriptLine}
@@ -17,18 +19,20 @@ use Rattle.applet_trait.specs.declared.applets.Applet.{Ghosts as AppletWords}
 use Rattle.card_model.specs.Counts.{IsCounted}
 use Rattle.card_core.specs.declared.opening_faults.OpenFault.{OpenFault}
 use Rattle.card_core.specs.declared.opening_faults.OpenFault.TheVariants as fault
-use Rattle.command_line.specs.Model.{AskForRun}
+use Rattle.command_line.specs.declared.requests.Mode.{Mode}
+use Rattle.command_line.specs.declared.requests.Mode.TheVariants.{Bip, Load}
 use Rattle.section_lines.specs.SectionReading.{AtStart}
 use Rattle.long_runs.specs.declared.counts.Counts.{Counts}
 use Rattle.run_steps.specs.declared.steps.MemoryFailed.{MemoryFailed}
+use Rattle.uicc_run.specs.Causes.{KeepsContent}
 use Rattle.uicc_run.specs.Endings.{HasFailed, IsEarly, IsUnopened, KeepsBytes, status_for}
-use Rattle.uicc_run.specs.Opening.{is_handset}
-use Rattle.uicc_run.specs.Loading.{ComesToLoad, HoldsFixed, LoadsFrom}
+use Rattle.uicc_run.specs.Headline.{Comes}
+use Rattle.uicc_run.specs.Opening.{BeginsAs, is_handset}
+use Rattle.uicc_run.specs.Loading.{ComesToLoad, HoldsFixed, IsOver}
 use Rattle.uicc_run.specs.Playing.{Leaves, Given, IsOpened}
-use Rattle.uicc_run.specs.Scripts.{HoldsDescribed, IsHalfMade}
-use Rattle.uicc_run.specs.Stores.{content_in}
+use Rattle.uicc_run.specs.Stores.{mark_of}
 use Rattle.uicc_run.specs.Terminals.{ComesToBip}
-use Rattle.uicc_run.specs.Worlds.{World, left_in}
+use Rattle.uicc_run.specs.Worlds.{World}
 use Rattle.uicc_run.specs.declared.endings.Ending.{Ending}
 use Rattle.uicc_run.specs.declared.endings.Ending.TheVariants.{Usage, NoMemory, FormatFailed, EepromFailed, NotACard, NoApplet, Played, Counted, LoadFailed}
 use Rattle.uicc_run.specs.declared.listeners.Listener.{Listener}
@@ -122,13 +126,6 @@ pub record EndsFor (ending : Ending) (before after : World) (TraceIsSame MemoryI
   pub untouched : IsEarly ending → MemoryIsSame
   pub boxes : IsUnopened ending → BoxesAreSame
 
--- The words of the command line are in no form just where a run ends for that. Then nothing is read and nothing is written.
-pub record RefusesAtFirst (words : List (List ℕ)) (ending : Ending) (ScriptIsSame TraceIsSame : Type 0) : Type 0 where
-  pub usage_only : ending ≡ Usage → AskForRun words → ⊥
-  pub usage : (AskForRun words → ⊥) → ending ≡ Usage
-  pub unread : (AskForRun words → ⊥) → ScriptIsSame
-  pub unused : (AskForRun words → ⊥) → TraceIsSame
-
 -- A long run ends so: not for its words, its source or its sink, nor as the lines of a script do; and for its memory only where that
 -- failed. What it is for the memory and the boxes to be as they were.
 pub record EndsLoad (ending : Ending) (memory memory_then : Meter) (MemoryIsSame BoxesAreSame : Type 0) : Type 0 where
@@ -140,21 +137,16 @@ pub record EndsLoad (ending : Ending) (memory memory_then : Meter) (MemoryIsSame
   pub boxes : IsUnopened ending → BoxesAreSame
   pub memory_cause : status_for ending ≡ 6 → HasFailed memory memory_then
 
--- A long run of so many lines from this number, before its last line: it writes nothing and reads nothing. Where there was no memory for the
--- rest of it, the device is as it was, or the memory, if it tells its bytes, holds just the card of such a run.
-pub record LoadsUntold (words : List (List ℕ)) (start count : ℕ) (ending : Ending) (before after : World) (ScriptIsSame TraceIsSame MemoryIsSame : Type 0) : Type 0 where
-  pub comes : (given : Given) (told : Bool) (taken : Option (List ℕ)) → LoadsFrom given told start count words before
-      → ComesToLoad given told start count ending (record (left_in given.pages after) { taken = taken })
+-- A long run of so many lines from this number, before its last line, over a store that had this mark before and has this one at the end: it
+-- writes nothing and reads nothing. Where there was no memory for the rest of it, the store is as it was, or it holds just the card of such a
+-- run, if it tells its bytes.
+pub record LoadsUntold (mark mark_then start count : ℕ) (ending : Ending) (before after : World) (ScriptIsSame TraceIsSame StoreIsSame : Type 0) : Type 0 where
+  pub comes : (given : Given) (told : Bool) (taken : Option (List ℕ)) → IsOver given told (option_map (stands_for mark) before.contents) before.meter before.boxes
+      → ComesToLoad given told start count ending (record (left_of mark_then after) { taken = taken })
   pub unwritten : TraceIsSame
   pub unread : ScriptIsSame
-  pub no_memory : (given : Given) (told : Bool) → LoadsFrom given told start count words before → ending ≡ NoMemory
-      → MemoryIsSame ⊎ HoldsFixed given (content_in given.pages after.contents)
-
--- What becomes of the content of a store that stood for this card, or for none: `KeepsMemory` says it of the device of such a store.
-pub record KeepsContent (given : Given) (ending : Ending) (held : Option Persistent) (old new : Option (List ℕ)) : Type 0 where
-  pub bytes : given.first ≡ None → KeepsBytes ending held → new ≡ old
-  pub half_made : is_some given.first ≡ true → ending ≡ FormatFailed → IsHalfMade given old new
-  pub no_memory : is_some given.first ≡ true → ending ≡ NoMemory → HoldsDescribed given new
+  pub no_memory : (given : Given) → mark_of given.pages ≡ mark → before.boxes ≡ given.boxes → ending ≡ NoMemory
+      → StoreIsSame ⊎ HoldsFixed given after.contents
 
 -- and where the card is only opened, of a store with this mark: no end of it is one of a formatting
 pub record KeepsOpened (mark : ℕ) (ending : Ending) (before after : World) : Type 0 where
@@ -166,9 +158,22 @@ abbrev pub ending_for_load : ℕ → Result Counts MemoryFailed → Ending
 ending_for_load lines (Ok counts) = Counted lines counts
 ending_for_load lines (Err failed) = LoadFailed
 
--- what it comes to by its words, and leaves alone: what it is for the memory and the boxes to be as they were
+-- what the run of a terminal's channels comes to, and leaves alone: what it is for the memory and the boxes to be as they were
 pub record ServesBip (before after : World) (MemoryIsSame BoxesAreSame : Type 0) (ending : Ending) : Type 0 where
   pub comes : (text : List ℕ) → before.left ≡ Some text → ComesToBip text before.taken after.left after.taken ending
   pub low : status_for ending ≤ 5
   pub memory_kept : MemoryIsSame
   pub boxes_kept : BoxesAreSame
+
+-- What a run in this mode comes to before its last line, over a store that had this mark before and has this one at the end: what was carried
+-- out of a script for a card, and what the store keeps; how much of the script is taken at most; a long run, and the channels of a
+-- terminal; and why it ended, which was never for its words.
+pub record CarriesOut (asked : Mode) (mark mark_then : ℕ) (ending : Ending) (before after : World) (ScriptIsSame TraceIsSame StoreIsSame BoxesAreSame : Type 0) : Type 0 where
+  pub comes : (given : Given) (told : Bool) → BeginsAs given told asked mark before → Comes given told after.left ending (left_of mark_then after)
+  pub content : (given : Given) (told : Bool) → BeginsAs given told asked mark before
+      → KeepsContent given ending (standing mark before.contents) before.contents after.contents StoreIsSame
+  pub taken : (text : List ℕ) → before.left ≡ Some text → IsTaken (MOST_BYTES + 1) text after.left
+  pub load : (start count : ℕ) → asked ≡ Load start count → LoadsUntold mark mark_then start count ending before after ScriptIsSame TraceIsSame StoreIsSame
+  pub bip : asked ≡ Bip → ServesBip before after StoreIsSame BoxesAreSame ending
+  pub used : ending ≢ Usage
+  pub ends : EndsFor ending before after TraceIsSame StoreIsSame BoxesAreSame

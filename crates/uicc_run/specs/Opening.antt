@@ -1,8 +1,9 @@
 -- What a run of a script is given, by its words and by what is seen of it before.
-use Rattle.std.specs.Prelude.{◌≡◌, ℕ, Bool, true, List, Option, Some, Result, false, None}
+use Rattle.std.specs.Prelude.{◌≡◌, ℕ, Bool, true, List, Option, Some, Result, false, None, option_map}
 use Rattle.uicc_types.specs.Counts.{Meter}
 use Rattle.card_state.specs.Persistent.{Persistent}
 use Rattle.card_state.specs.Sections.{bare_card}
+use Rattle.card_state.specs.Standing.{stands_for}
 use Rattle.applet_trait.specs.Minds.{AppletState}
 use Rattle.command_line.specs.Model.{IsRequest}
 use Rattle.command_line.specs.declared.requests.Mode.{Mode}
@@ -10,7 +11,7 @@ use Rattle.command_line.specs.declared.requests.Mode.TheVariants as mode
 use Rattle.command_line.specs.declared.requests.Request.{Request}
 use Rattle.command_line.specs.declared.requests.Transport.TheVariants as transport
 use Rattle.uicc_run.specs.Playing.{Given}
-use Rattle.uicc_run.specs.Stores.{memory_in}
+use Rattle.uicc_run.specs.Stores.{mark_of, memory_in}
 use Rattle.uicc_run.specs.Worlds.{World}
 use Rattle.uicc_run.specs.declared.listeners.Listener.{Listener}
 use Rattle.uicc_run.specs.declared.listeners.Listener.TheVariants.{Card, Handset}
@@ -57,6 +58,15 @@ pub record IsAskedFor (given : Given) (asked : Request) : Type 0 where
   pub first_is : given.first ≡ first_of asked.mode
   pub store_is : given.pages ≡ asked.devices.pages
   pub served_is : given.is_served ≡ is_served_by asked.mode
+
+-- A run in this mode is given this text and the rest, over a store with this mark: over one that tells its bytes, or over any.
+pub record BeginsAs (given : Given) (told : Bool) (asked : Mode) (mark : ℕ) (before : World) : Type 0 where
+  pub text_is : before.left ≡ Some given.text
+  pub others_are : IsGiven given told before.taken (option_map (stands_for mark) before.contents) before.meter before.boxes
+  pub for_card : ReadsForCard asked
+  pub first_is : given.first ≡ first_of asked
+  pub store_is : mark_of given.pages ≡ mark
+  pub served_is : given.is_served ≡ is_served_by asked
 
 -- A run is given this text and the rest, and is the one that its words ask for: over a memory that tells its bytes, or over any.
 pub record RunsFrom (given : Given) (told : Bool) (words : List (List ℕ)) (before : World) : Type 0 where

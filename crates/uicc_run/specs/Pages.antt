@@ -21,6 +21,10 @@ page_word Version = codes "--version"
 abbrev pub AsksFor : List (List ℕ) → Page → Type 0
 AsksFor words page = words ≡ page_word page ∷ []
 
+-- it is the word of this page
+abbrev pub IsPageWord : List ℕ → Page → Type 0
+IsPageWord word page = word ≡ page_word page
+
 -- they ask for no page
 abbrev pub AsksForNone : List (List ℕ) → Type 0
 AsksForNone words = (page : Page) → AsksFor words page → ⊥

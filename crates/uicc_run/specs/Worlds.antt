@@ -8,7 +8,7 @@ use Rattle.eeprom_model.specs.declared.device.Eeprom.{Ghosts as EepromWords}
 use Rattle.applet_trait.specs.Minds.{AppletState, minds_of}
 use Rattle.applet_trait.specs.declared.applets.Applet.{Ghosts as AppletWords}
 use Rattle.uicc_run.specs.Playing.{Leaves}
-use Rattle.uicc_run.specs.Stores.{held_in}
+use Rattle.uicc_run.specs.Stores.{content_in, held_in}
 
 -- a source, a sink, a memory and the boxes, as they are seen at one moment
 pub record World : Type 0 where
@@ -79,6 +79,10 @@ seen status before after = record {
   taken = after.taken;
   status = status;
 }
+
+-- the same of a device as of the one of the two stores that is made over it
+abbrev pub inside : Bool → World → World
+inside pages outer = record outer { contents = content_in pages outer.contents }
 
 -- ---- what of it is left
 

@@ -1,5 +1,6 @@
 //! The file of an image, and what is told of it.
 
+use command_line::Mode;
 use eeprom_model::{Image, open_image};
 use std::fs::File;
 use std::io::{Error, ErrorKind};
@@ -12,11 +13,11 @@ pub enum Use {
     Opened,
 }
 
-/// What the words of a run make of its image.
-pub fn use_of(words: &[String]) -> Use {
-    match words {
-        [word, ..] if word.as_str() == "open" => Use::Opened,
-        _ => Use::Made,
+/// What a run in this mode makes of its image.
+pub fn use_of(mode: Mode) -> Use {
+    match mode {
+        Mode::Open => Use::Opened,
+        Mode::Play | Mode::Phone { .. } | Mode::Load { .. } | Mode::Bip => Use::Made,
     }
 }
 

@@ -8,94 +8,54 @@ ghost use Rattle.card_model.specs.Counts.{IsCounted};
 ghost use Rattle.uicc_run.specs.Making.{EndsLoad, FitsStore, ending_for_load};
 ghost use Rattle.uicc_run.specs.Loading.{ComesToLoad, HoldsFixed, IsFixedCard, IsOver};
 ghost use Rattle.uicc_run.specs.Playing.{Given};
-ghost use Rattle.uicc_run.specs.Stores.{content_in, held_in, mark_of, memory_in, size_of};
+ghost use Rattle.uicc_run.specs.Stores.{mark_of};
 
 use crate::endings::Ending;
 use crate::running::ending_of;
 use applet_trait::Applet;
 use card_core::CardOver;
 use card_model::runs_are_counted;
-use eeprom_model::Eeprom;
 use layout_section::{Section, format};
 use long_runs::{Counts, describe_rows};
-use page_store::PageStore;
 use phone_runs::{count_lines, phone_runs_are_lawful};
 use run_steps::{CardEnd, MemoryFailed};
 use script_reader::{PlayEnd, ScriptFault};
 use std::alloc::Global;
 use store_form::Store;
 use uicc_types::Plan;
-use update_journal::Journal;
 
 /// Makes the card of a long run, and has a handset carry out `count` lines that are made from the number `start`. It stands apart, since
 /// the compiler fills each large local of a function with zeros at its entry, also those of a case that isn't taken.
 #[inline(never)]
-pub fn load<E: Eeprom, B: Applet>(
+pub fn load<S: Store, B: Applet>(
     alloc: Global,
-    pages: bool,
     start: u32,
     count: u32,
-    eeprom: E,
+    store: S,
     cast: Vec<Option<B>>,
-) -> (Ending, E, Vec<Option<B>>)
-    requires fits { FitsStore (E.byte_count eeprom) (size_of pages) cast.items }
+) -> (Ending, S, Vec<Option<B>>)
+    requires fits { FitsStore (S.byte_count store) memory_size cast.items }
     // Where the memory tells its bytes, and over any.
-    ensures comes { (given : Given) (told : Bool) (taken : Option (List ℕ)) → given.pages ≡ pages
-        → IsOver given told (memory_in given.pages (E.contents eeprom)) (E.meter eeprom) (minds_of B.mind cast.items)
+    ensures comes { (given : Given) (told : Bool) (taken : Option (List ℕ))
+        → IsOver given told (option_map (stands_for (S.store_mark store)) (S.stable store)) (S.meter store)
+        (minds_of B.mind cast.items)
         → ComesToLoad given told start count result.0 (record {
-          held = held_in given.pages (E.contents result.1);
+          held = standing (S.store_mark result.1) (S.stable result.1);
           taken = taken;
-          meter = E.meter result.1;
+          meter = S.meter result.1;
           boxes = minds_of B.mind result.2.items;
         }) }
-    ensures no_memory { (given : Given) → given.pages ≡ pages → minds_of B.mind cast.items ≡ given.boxes
-        → result.0 ≡ Ending.NoMemory
-        → (result.1 ≡ eeprom) ⊎ HoldsFixed given (content_in given.pages (E.contents result.1)) }
-    ensures ends { EndsLoad result.0 (E.meter eeprom) (E.meter result.1)
-        (result.1 ≡ eeprom) (result.2.items ≡ cast.items) }
+    ensures no_memory { (given : Given) → mark_of given.pages ≡ S.store_mark store → minds_of B.mind cast.items ≡ given.boxes
+        → result.0 ≡ Ending.NoMemory → (result.1 ≡ store) ⊎ HoldsFixed given (S.stable result.1) }
+    ensures ends { EndsLoad result.0 (S.meter store) (S.meter result.1)
+        (result.1 ≡ store) (result.2.items ≡ cast.items) }
 {
     match Section::new(alloc) {
         Ok(mut section) => match describe_rows(cast.as_slice(), &mut section) {
-            Ok(()) => load_on(alloc, pages, &section, start, count, eeprom, cast),
-            Err(number) => (Ending::Section(ScriptFault::BadLine(number)), eeprom, cast),
+            Ok(()) => load_over(alloc, &section, start, count, store, cast),
+            Err(number) => (Ending::Section(ScriptFault::BadLine(number)), store, cast),
         },
-        Err(_) => (Ending::NoMemory, eeprom, cast),
-    }
-}
-
-/// Makes the store: the one whose pages move, or the journal.
-fn load_on<E: Eeprom, B: Applet>(
-    alloc: Global,
-    pages: bool,
-    section: &Section,
-    start: u32,
-    count: u32,
-    eeprom: E,
-    cast: Vec<Option<B>>,
-) -> (Ending, E, Vec<Option<B>>)
-    requires fits { FitsStore (E.byte_count eeprom) (size_of pages) cast.items }
-    ensures comes { (given : Given) (told : Bool) (taken : Option (List ℕ)) → given.pages ≡ pages
-        → IsFixedCard given.boxes section.now
-        → IsOver given told (memory_in given.pages (E.contents eeprom)) (E.meter eeprom) (minds_of B.mind cast.items)
-        → ComesToLoad given told start count result.0 (record {
-          held = held_in given.pages (E.contents result.1);
-          taken = taken;
-          meter = E.meter result.1;
-          boxes = minds_of B.mind result.2.items;
-        }) }
-    ensures no_memory { result.0 ≡ Ending.NoMemory
-        → IfSome (content_in pages (E.contents result.1))
-        (λ content. stands_for (mark_of pages) content ≡ Ok section.now) }
-    ensures ends { EndsLoad result.0 (E.meter eeprom) (E.meter result.1) ⊥ (result.2.items ≡ cast.items) }
-{
-    if pages {
-        let store = PageStore::new(eeprom);
-        let (ending, store, cast) = load_over(alloc, section, start, count, store, cast);
-        (ending, store.into_device(), cast)
-    } else {
-        let store = Journal::new(eeprom);
-        let (ending, store, cast) = load_over(alloc, section, start, count, store, cast);
-        (ending, store.into_device(), cast)
+        Err(_) => (Ending::NoMemory, store, cast),
     }
 }
 

@@ -2,8 +2,7 @@
 ghost use Rattle.std.specs.Prelude.{◌≡◌, map, string_bytes};
 ghost use Rattle.uicc_types.specs.Counts.{CountsFailure};
 ghost use Rattle.script_form.specs.Reads.{Reads};
-ghost use Rattle.uicc_run.specs.Pages.{AsksFor, Shows, page_text};
-ghost use Rattle.uicc_run.specs.OverDevices.{IsPageWord};
+ghost use Rattle.uicc_run.specs.Pages.{AsksFor, IsPageWord, Shows, page_text};
 
 use byte_streams::{Failed, Sink};
 

@@ -4,28 +4,28 @@ ghost use Rattle.uicc_types.specs.Counts.{Rose};
 ghost use Rattle.uicc_types.specs.Told.{Becomes};
 ghost use Rattle.byte_streams.specs.Reading.{IsTaken, IsWithin};
 ghost use Rattle.byte_streams.specs.declared.limits.TheConstants.{MOST_BYTES};
+ghost use Rattle.script_form.specs.Reads.{IsOnly};
 ghost use Rattle.script_reader.specs.Reading.{reading};
 ghost use Rattle.card_state.specs.Places.{memory_size};
 ghost use Rattle.card_state.specs.Standing.{standing, stands_for};
 ghost use Rattle.card_state.specs.Persistent.{Persistent};
 ghost use Rattle.layout_section.specs.Laying.{KeepsFirstOr};
 ghost use Rattle.applet_trait.specs.Minds.{minds_of};
+ghost use Rattle.command_line.specs.Model.{IsRequest};
 ghost use Rattle.run_steps.specs.Ends.{moment_at};
 ghost use Rattle.run_steps.specs.Tallies.{tally};
 ghost use Rattle.run_steps.specs.Views.{CardView};
 ghost use Rattle.phone_runs.specs.LineTallies.{TalliesLines};
-ghost use Rattle.uicc_run.specs.Making.{EndsFor, FitsStore, KeepsContent, KeepsOpened, KeepsStoreForm, LoadsUntold, RefusesAtFirst, IsMade, IsToPlay, ending_for, makes, left_of, stored, ServesBip};
-ghost use Rattle.uicc_run.specs.Causes.{FitsRun, KeepsMemory};
+ghost use Rattle.uicc_run.specs.Making.{CarriesOut, EndsFor, FitsStore, KeepsOpened, KeepsStoreForm, IsMade, IsToPlay, ending_for, makes, left_of, stored};
+ghost use Rattle.uicc_run.specs.Causes.{FitsRun, KeepsContent};
 ghost use Rattle.uicc_run.specs.Endings.{HasFailed, status_for};
 ghost use Rattle.uicc_run.specs.Headline.{Closes, Comes};
-ghost use Rattle.uicc_run.specs.Loading.{AskToLoad};
-ghost use Rattle.uicc_run.specs.Opening.{is_handset, IsGiven, RunsFrom};
+ghost use Rattle.uicc_run.specs.Opening.{is_handset, IsGiven};
 ghost use Rattle.uicc_run.specs.BetweenLines.{IsStarted};
 ghost use Rattle.uicc_run.specs.Playing.{Given, left_at, ComesTo};
 ghost use Rattle.uicc_run.specs.Running.{RunsAsAsked};
-ghost use Rattle.uicc_run.specs.Worlds.{left_in, world};
-ghost use Rattle.uicc_run.specs.Stores.{mark_of, memory_in, size_of};
-ghost use Rattle.uicc_run.specs.Terminals.{AskForBip};
+ghost use Rattle.uicc_run.specs.Worlds.{world};
+ghost use Rattle.uicc_run.specs.Stores.{mark_of, size_of};
 
 use crate::endings::{Ending, last_line, status_of};
 use crate::listeners::{Listener, carrier_by, listener_for};
@@ -36,7 +36,7 @@ use applet_trait::Applet;
 use byte_streams::{Failed, Sink, Source};
 use card_core::{CardOver, OpenFault};
 use card_model::runs_are_counted;
-use command_line::{Mode, asked_for};
+use command_line::{Mode, Request, asked_for};
 use eeprom_model::Eeprom;
 use layout_section::{Section, format};
 use page_store::PageStore;
@@ -68,116 +68,69 @@ pub fn run<R: Source, W: Sink, E: Eeprom, B: Applet>(
         (world R.Source W.Sink E.Eeprom B.Applet script.new trace.new result.1 result.2.items)
         (script.new ≡ script.old) (result.1 ≡ eeprom) (result.2.items ≡ cast.items) }
 {
-    let (ending, eeprom, cast) = carry_out(alloc, words, script, trace, eeprom, cast);
-    (close(&ending, trace), eeprom, cast)
-}
-
-/// All but the last line.
-fn carry_out<R: Source, W: Sink, E: Eeprom, B: Applet>(
-    alloc: Global,
-    words: &[String],
-    script: &mut R,
-    trace: &mut W,
-    eeprom: E,
-    cast: Vec<Option<B>>,
-) -> (Ending, E, Vec<Option<B>>)
-    requires fits { FitsRun (map string_bytes words.now) (E.byte_count eeprom) cast.items }
-    // Where the memory tells its bytes, and over any.
-    ensures comes { (given : Given) (told : Bool) → RunsFrom given told (map string_bytes words.now)
-        (world R.Source W.Sink E.Eeprom B.Applet script.old trace.old eeprom cast.items)
-        → Comes given told (R.left script.new) result.0 (left_in given.pages
-        (world R.Source W.Sink E.Eeprom B.Applet script.new trace.new result.1 result.2.items)) }
-    // No more than 16,777,217 bytes of the script are taken.
-    ensures taken { (text : List ℕ) → R.left script.old ≡ Some text
-        → IsTaken (MOST_BYTES + 1) text (R.left script.new) }
-    ensures load { (start count : ℕ) → AskToLoad (map string_bytes words.now) start count
-        → LoadsUntold (map string_bytes words.now) start count result.0
-        (world R.Source W.Sink E.Eeprom B.Applet script.old trace.old eeprom cast.items)
-        (world R.Source W.Sink E.Eeprom B.Applet script.new trace.new result.1 result.2.items)
-        (script.new ≡ script.old) (trace.new ≡ trace.old) (result.1 ≡ eeprom) }
-    ensures bip { AskForBip (map string_bytes words.now) → ServesBip
-        (world R.Source W.Sink E.Eeprom B.Applet script.old trace.old eeprom cast.items)
-        (world R.Source W.Sink E.Eeprom B.Applet script.new trace.new result.1 result.2.items)
-        (result.1 ≡ eeprom) (result.2.items ≡ cast.items) result.0 }
-    ensures usage { RefusesAtFirst (map string_bytes words.now) result.0
-        (script.new ≡ script.old) (trace.new ≡ trace.old) }
-    ensures memory { (given : Given) (told : Bool) → RunsFrom given told (map string_bytes words.now)
-        (world R.Source W.Sink E.Eeprom B.Applet script.old trace.old eeprom cast.items)
-        → KeepsMemory given result.0
-        (world R.Source W.Sink E.Eeprom B.Applet script.old trace.old eeprom cast.items)
-        (world R.Source W.Sink E.Eeprom B.Applet script.new trace.new result.1 result.2.items)
-        (result.1 ≡ eeprom) }
-    ensures ends { EndsFor result.0
-        (world R.Source W.Sink E.Eeprom B.Applet script.old trace.old eeprom cast.items)
-        (world R.Source W.Sink E.Eeprom B.Applet script.new trace.new result.1 result.2.items)
-        (trace.new ≡ trace.old) (result.1 ≡ eeprom) (result.2.items ≡ cast.items) }
-{
-    let Some(asked) = asked_for(words) else {
-        return (Ending::Usage, eeprom, cast);
-    };
-    let pages = asked.devices.pages;
-    match asked.mode {
-        Mode::Play | Mode::Phone { .. } => match Section::new(alloc) {
-            Ok(section) => {
-                let listener = listener_for(asked.mode);
-                let card = Some(section);
-                play_on_device(alloc, pages, listener, card, script, trace, eeprom, cast)
-            }
-            Err(_) => (Ending::NoMemory, eeprom, cast),
-        },
-        Mode::Open => {
-            let listener = Listener::Card;
-            play_on_device(alloc, pages, listener, None, script, trace, eeprom, cast)
-        }
-        Mode::Load { start, count } => load(alloc, pages, start, count, eeprom, cast),
-        Mode::Bip => (serve_channels(alloc, script, trace), eeprom, cast),
+    match asked_for(words) {
+        Some(asked) => run_for(alloc, asked, script, trace, eeprom, cast),
+        None => (close(&Ending::Usage, trace), eeprom, cast),
     }
 }
 
-/// Makes the store, the one whose pages move or the journal, and has the script carried out over it.
-fn play_on_device<R: Source, W: Sink, E: Eeprom, B: Applet>(
+/// Runs as is asked for: makes the store, the one whose pages move or the journal, has the script carried out over it, and writes the
+/// last line.
+pub(crate) fn run_for<R: Source, W: Sink, E: Eeprom, B: Applet>(
     alloc: Global,
-    pages: bool,
-    listener: Listener,
-    card: Option<Section>,
+    asked: Request,
     script: &mut R,
     trace: &mut W,
     eeprom: E,
     cast: Vec<Option<B>>,
-) -> (Ending, E, Vec<Option<B>>)
-    requires fits { FitsStore (E.byte_count eeprom) (size_of pages) cast.items }
-    ensures comes { (given : Given) (told : Bool) → given.pages ≡ pages
-        → IsToPlay given listener card (R.left script.old) (minds_of B.mind cast.items)
-        → IsGiven given told (W.taken trace.old) (memory_in given.pages (E.contents eeprom)) (E.meter eeprom)
-        (minds_of B.mind cast.items)
-        → Comes given told (R.left script.new) result.0 (left_in given.pages
-        (world R.Source W.Sink E.Eeprom B.Applet script.new trace.new result.1 result.2.items)) }
-    ensures taken { (text : List ℕ) → R.left script.old ≡ Some text
-        → IsTaken (MOST_BYTES + 1) text (R.left script.new) }
-    ensures used { result.0 ≢ Ending.Usage }
-    ensures memory { (given : Given) → given.pages ≡ pages
-        → IsToPlay given listener card (R.left script.old) (minds_of B.mind cast.items)
-        → KeepsMemory given result.0
+) -> (u8, E, Vec<Option<B>>)
+    requires fits { FitsStore (E.byte_count eeprom) (size_of asked.devices.pages) cast.items }
+    ensures { (words : List (List ℕ)) → IsOnly (IsRequest words) asked → RunsAsAsked words result.0
         (world R.Source W.Sink E.Eeprom B.Applet script.old trace.old eeprom cast.items)
         (world R.Source W.Sink E.Eeprom B.Applet script.new trace.new result.1 result.2.items)
-        (result.1 ≡ eeprom) }
-    ensures ends { EndsFor result.0
-        (world R.Source W.Sink E.Eeprom B.Applet script.old trace.old eeprom cast.items)
-        (world R.Source W.Sink E.Eeprom B.Applet script.new trace.new result.1 result.2.items)
-        (trace.new ≡ trace.old) (result.1 ≡ eeprom) (result.2.items ≡ cast.items) }
+        (script.new ≡ script.old) (result.1 ≡ eeprom) (result.2.items ≡ cast.items) }
 {
-    if pages {
+    if asked.devices.pages {
         let store = PageStore::new(eeprom);
-        let (ending, store, cast) = read_and_play(
-            alloc, listener, card, script, trace, store, cast,
-        );
-        (ending, store.into_device(), cast)
+        let (ending, store, cast) = carry_out(alloc, asked.mode, script, trace, store, cast);
+        (close(&ending, trace), store.into_device(), cast)
     } else {
         let store = Journal::new(eeprom);
-        let (ending, store, cast) = read_and_play(
-            alloc, listener, card, script, trace, store, cast,
-        );
-        (ending, store.into_device(), cast)
+        let (ending, store, cast) = carry_out(alloc, asked.mode, script, trace, store, cast);
+        (close(&ending, trace), store.into_device(), cast)
+    }
+}
+
+/// Does what a run in this mode does over a store, but for the last line.
+fn carry_out<S: Store, R: Source, W: Sink, B: Applet>(
+    alloc: Global,
+    mode: Mode,
+    script: &mut R,
+    trace: &mut W,
+    store: S,
+    cast: Vec<Option<B>>,
+) -> (Ending, S, Vec<Option<B>>)
+    requires fits { FitsStore (S.byte_count store) memory_size cast.items }
+    ensures { CarriesOut mode (S.store_mark store) (S.store_mark result.1) result.0
+        (stored R.Source W.Sink S.Store B.Applet script.old trace.old store cast.items)
+        (stored R.Source W.Sink S.Store B.Applet script.new trace.new result.1 result.2.items)
+        (script.new ≡ script.old) (trace.new ≡ trace.old) (result.1 ≡ store) (result.2.items ≡ cast.items) }
+{
+    match mode {
+        Mode::Play | Mode::Phone { .. } => match Section::new(alloc) {
+            Ok(section) => {
+                let listener = listener_for(mode);
+                let card = Some(section);
+                read_and_play(alloc, listener, card, script, trace, store, cast)
+            }
+            Err(_) => (Ending::NoMemory, store, cast),
+        },
+        Mode::Open => {
+            let listener = Listener::Card;
+            read_and_play(alloc, listener, None, script, trace, store, cast)
+        }
+        Mode::Load { start, count } => load(alloc, start, count, store, cast),
+        Mode::Bip => (serve_channels(alloc, script, trace), store, cast),
     }
 }
 
@@ -205,7 +158,7 @@ fn read_and_play<S: Store, R: Source, W: Sink, B: Applet>(
     ensures memory { (given : Given) → mark_of given.pages ≡ S.store_mark store
         → IsToPlay given listener card (R.left script.old) (minds_of B.mind cast.items)
         → KeepsContent given result.0 (standing (S.store_mark store) (S.stable store)) (S.stable store)
-        (S.stable result.1) }
+        (S.stable result.1) (result.1 ≡ store) }
     ensures ends { EndsFor result.0
         (stored R.Source W.Sink S.Store B.Applet script.old trace.old store cast.items)
         (stored R.Source W.Sink S.Store B.Applet script.new trace.new result.1 result.2.items)

@@ -1,5 +1,5 @@
 -- Where the lines before `start` are read, they describe the card that is formatted and opened; without such lines the bytes stay as they are.
-use Rattle.std.proofs.Common.{◌≡◌, None, ap, arith, refl, sym, ◌∙◌, subst, IfSome, Ok}
+use Rattle.std.proofs.Common.{◌≡◌, None, ap, arith, inr, refl, sym, ◌∙◌, subst, IfSome, Ok}
 use Rattle.uicc_types.specs.Told.{Becomes}
 use Rattle.byte_streams.proofs.ReadingLemmas.{IsTaken-within, IsWithin-start}
 use Rattle.card_state.specs.Standing.{stands_for}
@@ -46,12 +46,12 @@ returns-in-Ok-make-clause-memory g c = λ given mark play. record {
   no_memory = λ some failed.
       let at = at_start_of _ given.boxes given.first given.text _ _ _ (ap (minds_of g.B.Applet.mind) c.as_slice.ensures.value ∙ play.boxes_are) (c.in-Ok.ensures.card given.first given.text (at_first _ given.first given.text c.new-reader.result _ c.args.card c.new-reader.ensures.reader c.new-reader.ensures.number play.first_is play.text_is)) in
       let card = described_some given.boxes given.first at.section _ at.described some in
-      record {
+      inr (record {
         card = card.0;
         reaches = subst (ReachesStart given) card.1 (reached given _ _ _ at);
         stands = subst (λ m. IfSome (g.S.Store.stable c.open_and_play.result.1) (λ content. stands_for m content ≡ Ok card.0)) (sym mark)
             (stays_made c.open_and_play.result.0 card.0 _ _ _ _ failed (rw card.1 at c.in-Ok-make.ensures.made) c.open_and_play.ensures.memory.bytes);
-      };
+      });
 }
 
 -- ---- where it could not be
