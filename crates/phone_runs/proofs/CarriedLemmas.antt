@@ -1,11 +1,12 @@
 -- What a handset sends goes over the link of its carrier, where that is one.
-use Rattle.std.proofs.Common.{◌≡◌, ℕ, suc, ◌+◌, ◌≤◌, min, Bool, true, if◌then◌else◌, List, [], ◌∷◌, Option, Some, refl, sym, ap, ◌∙◌, subst, arith}
+use Rattle.std.proofs.Common.{◌≡◌, ℕ, suc, ◌+◌, ◌≤◌, min, Bool, true, if◌then◌else◌, List, [], ◌∷◌, Option, Some, refl, sym, ap, ◌∙◌, subst, arith, Ok, Err}
 use Rattle.uicc_types.specs.declared.answers.Answer.{Answer}
 use Rattle.apdu_form.specs.Model.{Apdu}
 use Rattle.t0_link.specs.Carrying.{is_carried, tpdus_by, tpdus_for, tpdus_if_carried, tpdus_sent}
 use Rattle.t0_link.specs.Tpdus.{transfer_of}
 use Rattle.t0_link.specs.declared.tpdus.Transfer.{Transfer}
 use Rattle.t0_link.specs.declared.tpdus.Transfer.TheVariants.{GetResponse, Outgoing, Incoming}
+use Rattle.t0_link.specs.declared.endpoint.LinkFault.TheVariants.{PowerLost, NoPower}
 use Rattle.script_form.specs.declared.handset.HandsetLine.{HandsetLine}
 use Rattle.script_form.specs.declared.handset.Note.{Note}
 use Rattle.handset_model.specs.History.{Happened, Noted, Said, Sent, commands, known}
@@ -16,11 +17,10 @@ use Rattle.handset_model.specs.declared.commands.Command.TheVariants as sent
 use Rattle.handset_model.specs.declared.steps.PhoneStep.{PhoneStep}
 use Rattle.handset_model.specs.declared.steps.PhoneStep.TheVariants as step
 use Rattle.terminal_side.specs.Kept.{Kept, kept}
+use Rattle.run_steps.specs.Taking.{Outcome}
 use Rattle.run_steps.proofs.CarriesLemmas.{carries_fewer, carries_none, carries_on}
 use Rattle.run_steps.specs.Carriers.{Carries}
 use Rattle.run_steps.specs.declared.carriers.Carrier.{Carrier}
-use Rattle.run_steps.specs.declared.steps.Reply.{Reply}
-use Rattle.run_steps.specs.declared.steps.Reply.TheVariants as reply
 use Rattle.run_steps.specs.declared.steps.Restarted.{Restarted as AReset}
 use Rattle.run_steps.specs.declared.steps.Restarted.TheVariants as ended
 use Rattle.phone_runs.proofs.ApduOfLemmas.{parts_of, parts_read}
@@ -57,10 +57,10 @@ commands_kept h = refl
 commands_at : (phone : Kept) (h : List Happened) → phone ≡ kept h → phone.known.commands ≡ commands h
 commands_at phone h is = ap (λ (k : Kept). k.known.commands) is ∙ commands_kept h
 
-replied_commands : (outcome : Reply) (answer : Answer) (h : List Happened) → commands (replied outcome answer ∷ h) ≡ commands h
-replied_commands reply.Answered answer h = refl
-replied_commands reply.Cut answer h = refl
-replied_commands reply.Off answer h = refl
+replied_commands : (outcome : Outcome) (answer : Answer) (h : List Happened) → commands (replied outcome answer ∷ h) ≡ commands h
+replied_commands (Ok done) answer h = refl
+replied_commands (Err PowerLost) answer h = refl
+replied_commands (Err NoPower) answer h = refl
 
 reset_commands : (outcome : AReset) (h : List Happened) → commands (reset_by outcome ∷ h) ≡ commands h
 reset_commands ended.Done h = refl
@@ -86,7 +86,7 @@ pub same_carried : (old new : Kept) (each : Carrier) → new ≡ old → Carries
 same_carried old new each same = record { times = 0; sent = no_more old.known.commands new.known.commands old.known.commands refl (ap (λ (k : Kept). k.known.commands) same); carried = carries_none each }
 
 -- a command
-pub sent_carried : (old mid new : Kept) (found : Option PhoneStep) (apdu : List ℕ) (outcome : Reply) (answer : Answer) (before after : Carrier) → IsAskedOf old mid found → found ≡ Some (step.Send apdu)
+pub sent_carried : (old mid new : Kept) (found : Option PhoneStep) (apdu : List ℕ) (outcome : Outcome) (answer : Answer) (before after : Carrier) → IsAskedOf old mid found → found ≡ Some (step.Send apdu)
     → ((h : List Happened) → mid ≡ kept h → new ≡ kept (replied outcome answer ∷ h)) → IsPhoneServed old → Carries (tpdus_for apdu answer.body) before after → CarriesMore old new before after
 sent_carried old mid new found apdu outcome answer before after asking is hears served carries =
     let sent = sent_so old mid found apdu served.history asking is served.keeps in

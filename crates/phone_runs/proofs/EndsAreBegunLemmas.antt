@@ -1,5 +1,5 @@
 -- What the sink has taken where a run ended before the handset rested.
-use Rattle.std.proofs.Common.{◌≡◌, ℕ, Bool, true, false, List, [], ◌∷◌, ◌++◌, refl, sym, ap, ◌∙◌, append_assoc, subst, inl, inr, map, reverse, ◌⊎◌, MatchBool}
+use Rattle.std.proofs.Common.{◌≡◌, ℕ, Bool, true, false, List, [], ◌∷◌, ◌++◌, refl, sym, ap, ◌∙◌, append_assoc, subst, inl, inr, map, reverse, ◌⊎◌, MatchBool, Ok, Err}
 use Rattle.std.proofs.lemmas.List.{append-nil, reverse-append}
 use Rattle.uicc_types.specs.Told.{IsFront}
 use Rattle.uicc_types.specs.declared.answers.Answer.{Answer}
@@ -7,6 +7,7 @@ use Rattle.uicc_types.specs.declared.plans.Plan.{Plan}
 use Rattle.uicc_types.specs.declared.runs.Step.TheVariants as step
 use Rattle.uicc_types.specs.declared.runs.TraceItem.{TraceItem}
 use Rattle.uicc_types.specs.declared.runs.TraceItem.TheVariants as item
+use Rattle.t0_link.specs.declared.endpoint.LinkFault.TheVariants.{PowerLost, NoPower}
 use Rattle.script_form.specs.declared.handset.Note.{Note}
 use Rattle.card_model.specs.Answers.{answer}
 use Rattle.card_model.specs.Runs.{Commands, MeetsNoPower}
@@ -21,10 +22,8 @@ use Rattle.handset_model.specs.declared.known.Duty.TheVariants.{Rest, Transmit, 
 use Rattle.run_steps.proofs.GoesOnLemmas.{text_of-append}
 use Rattle.run_steps.specs.Runs.{item_text, text_of}
 use Rattle.run_steps.specs.Stepping.{BreaksOff, IsCutOff, Moment}
-use Rattle.run_steps.specs.Taking.{exchanged}
+use Rattle.run_steps.specs.Taking.{Outcome, exchanged}
 use Rattle.run_steps.specs.Views.{CardView, IsReply, ItsPower, LastShows, StepShows, TheCard}
-use Rattle.run_steps.specs.declared.steps.Reply.{Reply}
-use Rattle.run_steps.specs.declared.steps.Reply.TheVariants as reply
 use Rattle.run_steps.specs.declared.steps.Restarted.TheVariants as ended
 use Rattle.run_steps.specs.declared.steps.StepEnd.TheVariants.{SinkFailed, ResetFailed}
 use Rattle.phone_runs.proofs.RunsAreLegalLemmas.{is_of}
@@ -65,7 +64,7 @@ begun_by log later entries same orderly is = inl (record {
 
 -- what a step of a command shows is a command and a reply
 record IsReplied (apdu : List ℕ) (items : List TraceItem) : Type 0 where
-  outcome : Reply
+  outcome : Outcome
   answer : Answer
   shows : items ≡ exchanged apdu answer outcome
 
@@ -73,15 +72,15 @@ abbrev any_answer : Answer
 any_answer = record { body = []; status = record { 0 = 0 } }
 
 replied_by : (on : Bool) (old new : Machine) (apdu : List ℕ) (items : List TraceItem) → MatchBool on (Commands old apdu items new) (MeetsNoPower old apdu items new) → IsReplied apdu items
-replied_by true old new apdu items (inl exchanges) = record { outcome = reply.Answered; answer = record { body = (answer old.card apdu).body; status = (answer old.card apdu).status }; shows = exchanges.seen }
-replied_by true old new apdu items (inr (inl fails)) = record { outcome = reply.Answered; answer = record { body = []; status = _ }; shows = fails.seen }
-replied_by true old new apdu items (inr (inr lost)) = record { outcome = reply.Cut; answer = any_answer; shows = lost.seen }
-replied_by false old new apdu items none = record { outcome = reply.Off; answer = any_answer; shows = none.seen }
+replied_by true old new apdu items (inl exchanges) = record { outcome = Ok tt; answer = record { body = (answer old.card apdu).body; status = (answer old.card apdu).status }; shows = exchanges.seen }
+replied_by true old new apdu items (inr (inl fails)) = record { outcome = Ok tt; answer = record { body = []; status = _ }; shows = fails.seen }
+replied_by true old new apdu items (inr (inr lost)) = record { outcome = Err PowerLost; answer = any_answer; shows = lost.seen }
+replied_by false old new apdu items none = record { outcome = Err NoPower; answer = any_answer; shows = none.seen }
 
 replied_power : (on after : Bool) (apdu : List ℕ) (reply_so : TraceItem) (items : List TraceItem) → IsReply on reply_so after → items ≡ item.Command apdu ∷ reply_so ∷ [] → IsReplied apdu items
-replied_power on after apdu (item.Answer body status) items replies seen = record { outcome = reply.Answered; answer = record { body = body; status = status }; shows = seen }
-replied_power on after apdu item.Cut items replies seen = record { outcome = reply.Cut; answer = any_answer; shows = seen }
-replied_power on after apdu item.Off items replies seen = record { outcome = reply.Off; answer = any_answer; shows = seen }
+replied_power on after apdu (item.Answer body status) items replies seen = record { outcome = Ok tt; answer = record { body = body; status = status }; shows = seen }
+replied_power on after apdu item.Cut items replies seen = record { outcome = Err PowerLost; answer = any_answer; shows = seen }
+replied_power on after apdu item.Off items replies seen = record { outcome = Err NoPower; answer = any_answer; shows = seen }
 replied_power on after apdu other items replies seen = absurd replies
 
 replied_so : (old new : CardView) (apdu : List ℕ) (items : List TraceItem) → StepShows old (step.Apdu apdu) items new → IsReplied apdu items

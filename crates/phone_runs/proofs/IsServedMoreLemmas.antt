@@ -1,6 +1,7 @@
 -- From one event of a handset to the next: all is in order, and less is left to do for the line.
-use Rattle.std.proofs.Common.{◌≡◌, ℕ, ◌<◌, Bool, true, false, List, ◌∷◌, Option, Some, None, refl, sym, ap, ◌∙◌, subst, inl, inr, arith, ◌+◌, ◌&&◌, if◌then◌else◌, is_none, length}
+use Rattle.std.proofs.Common.{◌≡◌, ℕ, ◌<◌, Bool, true, false, List, ◌∷◌, Option, Some, None, refl, sym, ap, ◌∙◌, subst, inl, inr, arith, ◌+◌, ◌&&◌, if◌then◌else◌, is_none, length, Ok, Err}
 use Rattle.uicc_types.specs.declared.answers.Answer.{Answer}
+use Rattle.t0_link.specs.declared.endpoint.LinkFault.TheVariants.{PowerLost, NoPower}
 use Rattle.script_form.specs.declared.handset.HandsetLine.{HandsetLine}
 use Rattle.script_form.specs.declared.handset.HandsetLine.TheVariants.{UserOk, UserType, UserPick, UserPress, UserIdle, UserDial, NetPlace, NetPoll, Time, Reset}
 use Rattle.script_form.specs.declared.handset.Note.{Note}
@@ -21,8 +22,7 @@ use Rattle.handset_model.specs.declared.known.Known.{Known}
 use Rattle.handset_model.specs.declared.steps.PhoneStep.TheVariants as step
 use Rattle.terminal_side.specs.Kept.{Kept, kept, then_done, with_next}
 use Rattle.terminal_side.proofs.KeptLemmas.{clock_kept}
-use Rattle.run_steps.specs.declared.steps.Reply.{Reply}
-use Rattle.run_steps.specs.declared.steps.Reply.TheVariants as reply
+use Rattle.run_steps.specs.Taking.{Outcome}
 use Rattle.run_steps.specs.declared.steps.Restarted.{Restarted as AReset}
 use Rattle.run_steps.specs.declared.steps.Restarted.TheVariants as ended
 use Rattle.phone_runs.specs.Serving.{IsPhoneServed, IsServedMore, replied, reset_by, work_at}
@@ -96,8 +96,8 @@ noted_calm count duty note less is = let same : work count duty ≡ work count A
 less_twice : (one two three : ℕ) → one < two → two < three → one < three
 less_twice one two three first second = omega arith
 
-pub sent_next : LinesEnd → (h : List Happened) (command : Command) (outcome : Reply) (answer : Answer) → IsOrderly h → asked h ≡ Transmit command → IsNext h (replied outcome answer ∷ Sent command ∷ h)
-sent_next ending h command reply.Answered answer orderly is =
+pub sent_next : LinesEnd → (h : List Happened) (command : Command) (outcome : Outcome) (answer : Answer) → IsOrderly h → asked h ≡ Transmit command → IsNext h (replied outcome answer ∷ Sent command ∷ h)
+sent_next ending h command (Ok done) answer orderly is =
     let first : IsOrderly (Sent command ∷ h) = (is, orderly) in
     let second : IsOrderly (Answered answer ∷ Sent command ∷ h) = (refl, first) in
     let less = ending (Sent command ∷ h) (Answered answer) second tt in
@@ -107,7 +107,7 @@ sent_next ending h command reply.Answered answer orderly is =
       clock_is = refl;
       no_answer = answered_calm (commands (Sent command ∷ h)) (asked (Answered answer ∷ Sent command ∷ h)) less;
     }
-sent_next ending h command reply.Cut answer orderly is =
+sent_next ending h command (Err PowerLost) answer orderly is =
     let first : IsOrderly (Sent command ∷ h) = (is, orderly) in
     let second : IsOrderly (PowerCut ∷ Sent command ∷ h) = (inl refl, first) in
     record {
@@ -116,7 +116,7 @@ sent_next ending h command reply.Cut answer orderly is =
       clock_is = refl;
       no_answer = λ awaits. cc;
     }
-sent_next ending h command reply.Off answer orderly is =
+sent_next ending h command (Err NoPower) answer orderly is =
     let first : IsOrderly (Sent command ∷ h) = (is, orderly) in
     let second : IsOrderly (FoundOff ∷ Sent command ∷ h) = (refl, first) in
     record {

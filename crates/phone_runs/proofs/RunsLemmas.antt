@@ -1,5 +1,5 @@
 -- From one event of a run to the next, by what is known of the card.
-use Rattle.std.proofs.Common.{◌≡◌, ℕ, List, [], ◌∷◌, ◌++◌, Option, Err, refl, sym, ap, ◌∙◌, subst, inl, inr, reverse}
+use Rattle.std.proofs.Common.{◌≡◌, ℕ, List, [], ◌∷◌, ◌++◌, Option, Err, refl, sym, ap, ◌∙◌, subst, inl, inr, reverse, Ok}
 use Rattle.std.specs.Io.KnownBytes.{append_known}
 use Rattle.std.proofs.lemmas.List.{append-nil, reverse-append}
 use Rattle.std.proofs.lemmas.List.Concat.{flat_map-append}
@@ -10,6 +10,7 @@ use Rattle.uicc_types.specs.declared.runs.Step.{Step}
 use Rattle.uicc_types.specs.declared.runs.Step.TheVariants as step
 use Rattle.uicc_types.specs.declared.runs.TraceItem.{TraceItem}
 use Rattle.uicc_types.specs.declared.runs.TraceItem.TheVariants as item
+use Rattle.t0_link.specs.declared.endpoint.LinkFault.TheVariants.{PowerLost, NoPower}
 use Rattle.script_form.specs.declared.handset.HandsetLine.{HandsetLine}
 use Rattle.script_form.specs.declared.handset.Note.{Note}
 use Rattle.card_model.specs.Counts.{IsCounted}
@@ -24,22 +25,20 @@ use Rattle.handset_model.specs.declared.known.Duty.{Duty}
 use Rattle.handset_model.specs.declared.known.Duty.TheVariants.{Rest, Transmit, Show, ResetCard}
 use Rattle.terminal_side.specs.Kept.{Kept, kept}
 use Rattle.run_steps.specs.Ends.{End, moment_at}
-use Rattle.run_steps.proofs.SteppingLemmas.{ToldFront, no_last_command, still_shows, taken_none, told_more}
+use Rattle.run_steps.proofs.SteppingLemmas.{ToldFront, still_shows, taken_none, told_more}
 use Rattle.run_steps.proofs.ViewLemmas.{rests_then, steps_nowhere, steps_one, steps_then}
 use Rattle.run_steps.specs.Runs.{text_of}
 use Rattle.run_steps.specs.Stepping.{BreaksOff, Holds, IsSeen, Moment}
-use Rattle.run_steps.specs.Taking.{BreaksStep, EndsStep, GivesStep, Rests, TakesShowing, exchanged, restarted_by, seen as seen_of}
+use Rattle.run_steps.specs.Taking.{Outcome, BreaksStep, EndsStep, GivesReset, Rests, TakesShowing, exchanged, restarted_by, seen as seen_of}
 use Rattle.run_steps.specs.Views.{CardView, StepsShow}
-use Rattle.run_steps.specs.declared.steps.Reply.{Reply}
-use Rattle.run_steps.specs.declared.steps.Reply.TheVariants as reply
 use Rattle.run_steps.specs.declared.steps.Restarted.{Restarted as AReset}
 use Rattle.run_steps.specs.declared.steps.Restarted.TheVariants as ended
 use Rattle.run_steps.specs.declared.steps.StepEnd.{StepEnd}
 use Rattle.run_steps.specs.declared.steps.StepEnd.TheVariants.{SinkFailed, ResetFailed}
-use Rattle.phone_runs.specs.Logs.{Event, Happens, Plans, AreInTurn, cut_steps, history, lines_back, shown, steps, steps_back, trace}
+use Rattle.phone_runs.specs.Logs.{Arms, Event, Happens, Plans, AreInTurn, cut_steps, history, lines_back, shown, steps, steps_back, trace}
 use Rattle.phone_runs.specs.Playing.{Begins}
 use Rattle.phone_runs.specs.Runs.{Beginning, BreaksIn, BreaksInStep, BreaksSo, RunEnds, FailsSo, IsPhoneRun, entries_text, entry_text, note_line}
-use Rattle.phone_runs.specs.Settling.{IsAt, Reaches}
+use Rattle.phone_runs.specs.Settling.{IsAt, Reaches, Rests as HandsetRests}
 use Rattle.phone_runs.specs.Serving.{replied, reset_by}
 
 -- ---- traces after traces
@@ -145,27 +144,28 @@ broken_at given log old now duty is run broken = record { log = log; old = old; 
 -- ---- a command
 
 -- a command and what came of it
-abbrev pub with_reply : Command → Reply → Answer → List Event → List Event
+abbrev pub with_reply : Command → Outcome → Answer → List Event → List Event
 with_reply command outcome answer log = Happens (replied outcome answer) ∷ Happens (Sent command) ∷ log
 
-steps_sent : (command : Command) (outcome : Reply) (answer : Answer) (log : List Event) → steps (with_reply command outcome answer log) ≡ steps log ++ step.Apdu (apdu_of command) ∷ []
-steps_sent command reply.Answered answer log = reverse-append (step.Apdu (apdu_of command) ∷ []) (steps_back log)
-steps_sent command other answer log = reverse-append (step.Apdu (apdu_of command) ∷ []) (steps_back log)
+steps_sent : (command : Command) (outcome : Outcome) (answer : Answer) (log : List Event) → steps (with_reply command outcome answer log) ≡ steps log ++ step.Apdu (apdu_of command) ∷ []
+steps_sent command (Ok done) answer log = reverse-append (step.Apdu (apdu_of command) ∷ []) (steps_back log)
+steps_sent command (Err PowerLost) answer log = reverse-append (step.Apdu (apdu_of command) ∷ []) (steps_back log)
+steps_sent command (Err NoPower) answer log = reverse-append (step.Apdu (apdu_of command) ∷ []) (steps_back log)
 
-abbrev pub sent_entries : Command → Reply → Answer → List TraceEntry
+abbrev pub sent_entries : Command → Outcome → Answer → List TraceEntry
 sent_entries command outcome answer = Seen (item.Command (apdu_of command)) ∷ Seen (seen_of outcome answer) ∷ []
 
-pub trace_sent : (command : Command) (outcome : Reply) (answer : Answer) (log : List Event) → trace (with_reply command outcome answer log) ≡ trace log ++ sent_entries command outcome answer
-trace_sent command reply.Answered answer log = reverse-append (Seen (item.Answer answer.body answer.status) ∷ Seen (item.Command (apdu_of command)) ∷ []) (entries_of (history log))
-trace_sent command reply.Cut answer log = reverse-append (Seen item.Cut ∷ Seen (item.Command (apdu_of command)) ∷ []) (entries_of (history log))
-trace_sent command reply.Off answer log = reverse-append (Seen item.Off ∷ Seen (item.Command (apdu_of command)) ∷ []) (entries_of (history log))
+pub trace_sent : (command : Command) (outcome : Outcome) (answer : Answer) (log : List Event) → trace (with_reply command outcome answer log) ≡ trace log ++ sent_entries command outcome answer
+trace_sent command (Ok done) answer log = reverse-append (Seen (item.Answer answer.body answer.status) ∷ Seen (item.Command (apdu_of command)) ∷ []) (entries_of (history log))
+trace_sent command (Err PowerLost) answer log = reverse-append (Seen item.Cut ∷ Seen (item.Command (apdu_of command)) ∷ []) (entries_of (history log))
+trace_sent command (Err NoPower) answer log = reverse-append (Seen item.Off ∷ Seen (item.Command (apdu_of command)) ∷ []) (entries_of (history log))
 
-pub orderly_sent : (command : Command) (outcome : Reply) (answer : Answer) (log : List Event) → asked (history log) ≡ Transmit command → IsOrderly (history log) → IsOrderly (history (with_reply command outcome answer log))
-orderly_sent command reply.Answered answer log is orderly = (refl, (is, orderly))
-orderly_sent command reply.Cut answer log is orderly = (inl refl, (is, orderly))
-orderly_sent command reply.Off answer log is orderly = (refl, (is, orderly))
+pub orderly_sent : (command : Command) (outcome : Outcome) (answer : Answer) (log : List Event) → asked (history log) ≡ Transmit command → IsOrderly (history log) → IsOrderly (history (with_reply command outcome answer log))
+orderly_sent command (Ok done) answer log is orderly = (refl, (is, orderly))
+orderly_sent command (Err PowerLost) answer log is orderly = (inl refl, (is, orderly))
+orderly_sent command (Err NoPower) answer log is orderly = (refl, (is, orderly))
 
-pub sends_on : (command : Command) (outcome : Reply) (answer : Answer) (log : List Event) → asked (history log) ≡ Transmit command
+pub sends_on : (command : Command) (outcome : Outcome) (answer : Answer) (log : List Event) → asked (history log) ≡ Transmit command
     → GoesOnBy log (with_reply command outcome answer log) (step.Apdu (apdu_of command)) (exchanged (apdu_of command) answer outcome)
 sends_on command outcome answer log is = record {
   steps_are = steps_sent command outcome answer log;
@@ -175,11 +175,12 @@ sends_on command outcome answer log is = record {
   in_turn = λ in_turn. in_turn;
 }
 
-pub lines_sent : (command : Command) (outcome : Reply) (answer : Answer) (log : List Event) → lines_back (with_reply command outcome answer log) ≡ lines_back log
-lines_sent command reply.Answered answer log = refl
-lines_sent command other answer log = refl
+pub lines_sent : (command : Command) (outcome : Outcome) (answer : Answer) (log : List Event) → lines_back (with_reply command outcome answer log) ≡ lines_back log
+lines_sent command (Ok done) answer log = refl
+lines_sent command (Err PowerLost) answer log = refl
+lines_sent command (Err NoPower) answer log = refl
 
-pub reaches_sent : CountsJoin → PlansAreSetInOrder → (given : Beginning) (log : List Event) (command : Command) (outcome : Reply) (answer : Answer) (old new : Kept) (from to : Moment) → asked (history log) ≡ Transmit command
+pub reaches_sent : CountsJoin → PlansAreSetInOrder → (given : Beginning) (log : List Event) (command : Command) (outcome : Outcome) (answer : Answer) (old new : Kept) (from to : Moment) → asked (history log) ≡ Transmit command
     → ((old : CardView) → IsSeen old from → TakesShowing (exchanged (apdu_of command) answer outcome) old (step.Apdu (apdu_of command)) from to)
     → new ≡ kept (replied outcome answer ∷ Sent command ∷ history log) → IsAt given log old from → Reaches given (lines_back log) new to
 reaches_sent join order given log command outcome answer old new from to is takes keeps at = record {
@@ -188,14 +189,12 @@ reaches_sent join order given log command outcome answer old new from to is take
   at = reaches_by join order given log (with_reply command outcome answer log) _ _ new old from to (sends_on command outcome answer log is) keeps takes at;
 }
 
--- the run ended in it
-pub ends_sent : CountsJoin → (given : Beginning) (log : List Event) (command : Command) (end : StepEnd) (phone : Kept) (from to : Moment) → asked (history log) ≡ Transmit command
-    → ((old : CardView) → IsSeen old from → GivesStep (Err end) old (step.Apdu (apdu_of command)) from to)
-    → IsAt given log phone from → RunEnds given (lines_back log) to end
-ends_sent join given log command SinkFailed phone from to is gives at =
-    broken_at given log at.card to (Transmit command) is at.run (breaks_by join given log phone (step.Apdu (apdu_of command)) from to gives at)
-ends_sent join given log command ResetFailed phone from to is gives at =
-    let ended = gives at.card at.seen in absurd (no_last_command at.card ended.card (apdu_of command) ended.shown ended.ends)
+-- the sink failed in it
+pub ends_sent : CountsJoin → (given : Beginning) (log : List Event) (command : Command) (phone : Kept) (from to : Moment) → asked (history log) ≡ Transmit command
+    → ((old : CardView) → IsSeen old from → BreaksStep old (step.Apdu (apdu_of command)) from to)
+    → IsAt given log phone from → BreaksSo given (lines_back log) to
+ends_sent join given log command phone from to is breaks at =
+    broken_at given log at.card to (Transmit command) is at.run (breaks_by join given log phone (step.Apdu (apdu_of command)) from to breaks at)
 
 -- ---- a reset
 
@@ -249,7 +248,7 @@ reaches_reset join order given log outcome old new from to is takes keeps at = r
 }
 
 pub ends_reset : CountsJoin → PlansAreSetInOrder → (given : Beginning) (log : List Event) (end : StepEnd) (phone : Kept) (from to : Moment) → asked (history log) ≡ ResetCard
-    → ((old : CardView) → IsSeen old from → GivesStep (Err end) old step.Reset from to)
+    → ((old : CardView) → IsSeen old from → GivesReset (Err end) old from to)
     → IsAt given log phone from → RunEnds given (lines_back log) to end
 ends_reset join order given log SinkFailed phone from to is gives at = broken_at given log at.card to ResetCard is at.run (breaks_by join given log phone step.Reset from to gives at)
 ends_reset join order given log ResetFailed phone from to is gives at = fails_by join order given log phone from to is gives at
@@ -336,10 +335,14 @@ plans_so order given log plan phone now rest at = record {
   rests = at.rests;
 }
 
-pub plans_line : PlansAreSetInOrder → (given : Beginning) (log : List Event) (plan : Plan) (phone : Kept) (from to : End) (taken : Option (List ℕ)) → asked (history log) ≡ Rest → to ≡ record from { waiting = plans_joined from.waiting plan }
-    → IsAt given log phone (moment_at from taken) → IsAt given (Plans plan ∷ log) phone (moment_at to taken)
-plans_line order given log plan phone from to taken rest joins at =
-    subst (λ (e : End). IsAt given (Plans plan ∷ log) phone (moment_at e taken)) (sym joins) (plans_so order given log plan phone (moment_at from taken) rest at)
+pub plans_further : PlansAreSetInOrder → (given : Beginning) (log : List Event) (plan : Plan) (phone : Kept) (from to : End) (taken : Option (List ℕ)) → asked (history log) ≡ Rest → to ≡ record from { waiting = plans_joined from.waiting plan }
+    → IsAt given log phone (moment_at from taken) → HandsetRests given (Arms plan ∷ lines_back log) phone (moment_at to taken)
+plans_further order given log plan phone from to taken rest joins at = record {
+  log = Plans plan ∷ log;
+  lines_are = refl;
+  at = subst (λ (e : End). IsAt given (Plans plan ∷ log) phone (moment_at e taken)) (sym joins) (plans_so order given log plan phone (moment_at from taken) rest at);
+  done = rest;
+}
 
 -- a handset that keeps the same
 pub keeps_same : (given : Beginning) (log : List Event) (old new : Kept) (now : Moment) → new ≡ kept (history log) → IsAt given log old now → IsAt given log new now

@@ -19,10 +19,9 @@ use Rattle.terminal_side.specs.Kept.{Kept, kept, with_next}
 use Rattle.terminal_side.specs.Stages.{step_of}
 use Rattle.terminal_side.specs.declared.phone.Next.{Next}
 use Rattle.terminal_side.specs.declared.phone.Next.TheVariants as next
-use Rattle.run_steps.specs.Taking.{GivesStep, TakesShowing, exchanged, restarted_by}
+use Rattle.run_steps.specs.Taking.{BreaksStep, GivesReset, Outcome, TakesShowing, exchanged, restarted_by}
 use Rattle.run_steps.specs.Stepping.{Holds, IsSeen, Moment}
 use Rattle.run_steps.specs.Views.{CardView}
-use Rattle.run_steps.specs.declared.steps.Reply.{Reply}
 use Rattle.run_steps.specs.declared.steps.Restarted.{Restarted as AReset}
 use Rattle.run_steps.specs.declared.steps.StepEnd.{StepEnd}
 use Rattle.run_steps.proofs.SteppingLemmas.{told_front}
@@ -93,7 +92,7 @@ sent_so old mid found apdu h asking is keeps =
       keeps = asking.after h keeps ∙ ap kept (next_is h (Transmit send.command) send.asked_is);
     }
 
-pub sent_further : CountsJoin → PlansAreSetInOrder → (old mid new : Kept) (found : Option PhoneStep) (apdu : List ℕ) (outcome : Reply) (answer : Answer) (given : Beginning) (log : List Event) (from to : Moment)
+pub sent_further : CountsJoin → PlansAreSetInOrder → (old mid new : Kept) (found : Option PhoneStep) (apdu : List ℕ) (outcome : Outcome) (answer : Answer) (given : Beginning) (log : List Event) (from to : Moment)
     → IsAskedOf old mid found → found ≡ Some (step.Send apdu) → ((h : List Happened) → mid ≡ kept h → new ≡ kept (replied outcome answer ∷ h))
     → ((old : CardView) → IsSeen old from → TakesShowing (exchanged apdu answer outcome) old (run.Apdu apdu) from to) → IsAt given log old from → Reaches given (lines_back log) new to
 sent_further join order old mid new found apdu outcome answer given log from to asking is hears takes at =
@@ -101,14 +100,14 @@ sent_further join order old mid new found apdu outcome answer given log from to 
     let Takes : List ℕ → Type 0 = λ a. (old : CardView) → IsSeen old from → TakesShowing (exchanged a answer outcome) old (run.Apdu a) from to in
     reaches_sent join order given log sent.command outcome answer old new from to sent.asked_is (subst Takes (sym sent.bytes) takes) (hears (Sent sent.command ∷ history log) sent.keeps) at
 
-pub sent_ends : CountsJoin → (old mid : Kept) (found : Option PhoneStep) (apdu : List ℕ) (end : StepEnd) (given : Beginning) (log : List Event) (from to : Moment) → IsAskedOf old mid found → found ≡ Some (step.Send apdu)
-    → ((old : CardView) → IsSeen old from → GivesStep (Err end) old (run.Apdu apdu) from to) → IsAt given log old from → RunEnds given (lines_back log) to end
-sent_ends join old mid found apdu end given log from to asking is gives at =
+pub sent_ends : CountsJoin → (old mid : Kept) (found : Option PhoneStep) (apdu : List ℕ) (given : Beginning) (log : List Event) (from to : Moment) → IsAskedOf old mid found → found ≡ Some (step.Send apdu)
+    → ((old : CardView) → IsSeen old from → BreaksStep old (run.Apdu apdu) from to) → IsAt given log old from → BreaksSo given (lines_back log) to
+sent_ends join old mid found apdu given log from to asking is breaks at =
     let sent = sent_so old mid found apdu (history log) asking is at.keeps in
-    let Gives : List ℕ → Type 0 = λ a. (old : CardView) → IsSeen old from → GivesStep (Err end) old (run.Apdu a) from to in
-    ends_sent join given log sent.command end old from to sent.asked_is (subst Gives (sym sent.bytes) gives) at
+    let Breaks : List ℕ → Type 0 = λ a. (old : CardView) → IsSeen old from → BreaksStep old (run.Apdu a) from to in
+    ends_sent join given log sent.command old from to sent.asked_is (subst Breaks (sym sent.bytes) breaks) at
 
-pub sent_more : LinesEnd → (old mid new : Kept) (found : Option PhoneStep) (apdu : List ℕ) (outcome : Reply) (answer : Answer) → IsAskedOf old mid found → found ≡ Some (step.Send apdu)
+pub sent_more : LinesEnd → (old mid new : Kept) (found : Option PhoneStep) (apdu : List ℕ) (outcome : Outcome) (answer : Answer) → IsAskedOf old mid found → found ≡ Some (step.Send apdu)
     → ((h : List Happened) → mid ≡ kept h → new ≡ kept (replied outcome answer ∷ h)) → IsPhoneServed old → IsServedMore old new
 sent_more ending old mid new found apdu outcome answer asking is hears served =
     let sent = sent_so old mid found apdu served.history asking is served.keeps in
@@ -131,7 +130,7 @@ reset_further join order old mid new found outcome given log from to asking is h
     reaches_reset join order given log outcome old new from to resets takes (hears (history log) (reset_keeps old mid found (history log) asking resets at.keeps)) at
 
 pub reset_ends : CountsJoin → PlansAreSetInOrder → (old mid : Kept) (found : Option PhoneStep) (end : StepEnd) (given : Beginning) (log : List Event) (from to : Moment) → IsAskedOf old mid found → found ≡ Some step.Reset
-    → ((old : CardView) → IsSeen old from → GivesStep (Err end) old run.Reset from to) → IsAt given log old from → RunEnds given (lines_back log) to end
+    → ((old : CardView) → IsSeen old from → GivesReset (Err end) old from to) → IsAt given log old from → RunEnds given (lines_back log) to end
 reset_ends join order old mid found end given log from to asking is gives at = ends_reset join order given log end old from to (reset_so old mid found (history log) asking is at.keeps) gives at
 
 pub reset_more : LinesEnd → (old mid new : Kept) (found : Option PhoneStep) (outcome : AReset) → IsAskedOf old mid found → found ≡ Some step.Reset → ((h : List Happened) → mid ≡ kept h → new ≡ kept (reset_by outcome ∷ h)) → IsPhoneServed old → IsServedMore old new

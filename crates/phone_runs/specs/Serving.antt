@@ -1,6 +1,7 @@
 -- What is known of a handset that serves a card, also where neither the store nor the sink tells its bytes.
-use Rattle.std.specs.Prelude.{◌≡◌, ◌⊎◌, ℕ, ◌+◌, ◌<◌, ◌≤◌, List}
+use Rattle.std.specs.Prelude.{◌≡◌, ◌⊎◌, ℕ, ◌+◌, ◌<◌, ◌≤◌, List, Ok, Err}
 use Rattle.uicc_types.specs.declared.answers.Answer.{Answer}
+use Rattle.t0_link.specs.declared.endpoint.LinkFault.TheVariants.{PowerLost, NoPower}
 use Rattle.handset_model.specs.Ending.{work}
 use Rattle.handset_model.specs.History.{Happened, Answered, Restarted, PowerCut, FoundOff}
 use Rattle.handset_model.specs.Legal.{IsOrderly}
@@ -8,9 +9,8 @@ use Rattle.handset_model.specs.Rules.{asked}
 use Rattle.handset_model.specs.declared.known.Duty.TheVariants.{Await, Rest}
 use Rattle.terminal_side.specs.Kept.{Kept, kept}
 use Rattle.run_steps.specs.Carriers.{Carries}
+use Rattle.run_steps.specs.Taking.{Outcome}
 use Rattle.run_steps.specs.declared.carriers.Carrier.{Carrier}
-use Rattle.run_steps.specs.declared.steps.Reply.{Reply}
-use Rattle.run_steps.specs.declared.steps.Reply.TheVariants as reply
 use Rattle.run_steps.specs.declared.steps.Restarted.{Restarted as AReset}
 use Rattle.run_steps.specs.declared.steps.Restarted.TheVariants as ended
 
@@ -48,11 +48,11 @@ pub record CarriesMore (old new : Kept) (before after : Carrier) : Type 0 where
 abbrev pub LineIsCarried : Kept → Kept → Carrier → Carrier → Type 0
 LineIsCarried old new before after = ((new ≡ old) × (after ≡ before)) ⊎ Carries new.known.commands before after
 
--- what happens at a handset by a reply to its command
-abbrev pub replied : Reply → Answer → Happened
-replied reply.Answered answer = Answered answer
-replied reply.Cut answer = PowerCut
-replied reply.Off answer = FoundOff
+-- what happens at a handset by what came of its command
+abbrev pub replied : Outcome → Answer → Happened
+replied (Ok done) answer = Answered answer
+replied (Err PowerLost) answer = PowerCut
+replied (Err NoPower) answer = FoundOff
 
 -- and by a reset
 abbrev pub reset_by : AReset → Happened

@@ -4,8 +4,7 @@ ghost use Rattle.script_form.specs.Bounds.{IsBounded};
 ghost use Rattle.phone_runs.specs.Playing.{FitsIn, IsEffect, span_of_effect};
 ghost use Rattle.phone_runs.specs.declared.effects.TheConstants.{LONGEST_SPAN};
 
-use crate::playing::PhoneMove;
-use script_form::{ScriptLine, handset_line};
+use script_form::{HandsetLine, ScriptLine, handset_line};
 use uicc_types::Plan;
 
 /// The most seconds that a line of a script lets pass.
@@ -16,8 +15,10 @@ pub const LONGEST_SPAN: u32 = 999_999_999;
 pub enum PhoneEffect {
     /// It does nothing.
     Nothing,
-    /// It does this.
-    Takes(PhoneMove),
+    /// Something happens at it.
+    Hears(HandsetLine),
+    /// Faults are planned for the next command or reset.
+    Plans(Plan),
     /// It may not stand there.
     OutOfPlace,
 }
@@ -30,20 +31,20 @@ pub fn effect_on_phone(line: &ScriptLine) -> PhoneEffect
 {
     match line {
         ScriptLine::Passed => PhoneEffect::Nothing,
-        ScriptLine::Cut(cut) => PhoneEffect::Takes(PhoneMove::Plans(Plan {
+        ScriptLine::Cut(cut) => PhoneEffect::Plans(Plan {
             cut: Some(*cut),
             ..Plan::NONE
-        })),
-        ScriptLine::Fail(fail) => PhoneEffect::Takes(PhoneMove::Plans(Plan {
+        }),
+        ScriptLine::Fail(fail) => PhoneEffect::Plans(Plan {
             fail: Some(*fail),
             ..Plan::NONE
-        })),
-        ScriptLine::ReadFail(call) => PhoneEffect::Takes(PhoneMove::Plans(Plan {
+        }),
+        ScriptLine::ReadFail(call) => PhoneEffect::Plans(Plan {
             read_fail: Some(*call),
             ..Plan::NONE
-        })),
+        }),
         _ => match handset_line(line) {
-            Some(said) => PhoneEffect::Takes(PhoneMove::Hears(said)),
+            Some(said) => PhoneEffect::Hears(said),
             None => PhoneEffect::OutOfPlace,
         },
     }

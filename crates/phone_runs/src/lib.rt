@@ -21,5 +21,5 @@ pub use handset_laws::handsets_are_served;
 pub use laws::{phone_runs_are_lawful, phone_runs_are_one};
 pub use lines::{end_of, serve_line};
 pub use load_laws::loads_are_one;
-pub use playing::{PhoneMove, play_on_phone, start_phone};
+pub use playing::{hear_line, start_phone};
 pub use serving::{Places, settle};

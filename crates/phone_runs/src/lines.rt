@@ -11,10 +11,11 @@ ghost use Rattle.phone_runs.specs.Runs.{Beginning};
 ghost use Rattle.phone_runs.specs.Serving.{LineIsCarried};
 
 use crate::effects::{PhoneEffect, effect_on_phone};
-use crate::playing::play_on_phone;
+use crate::playing::hear_line;
 use crate::serving::Places;
 use applet_trait::Applet;
 use byte_streams::{Sink, Source};
+use card_model::plans_are_set_in_order;
 use run_steps::{CardEnd, Carrier, StepEnd};
 use script_form::ScriptLine;
 use script_reader::{PlayEnd, ScriptReader, read_behind};
@@ -46,13 +47,19 @@ pub fn serve_line<S: Store, B: Applet, R: Source, W: Sink>(
     ensures tallies { TalliesLines (tally W.Sink card.old trace.old) (tally W.Sink card.new trace.new)
         (R.faults source.old) (R.faults source.new) (λ end. result ≡ Err end) }
 {
+    // This call is a law, and does nothing.
+    plans_are_set_in_order();
     match read_behind(script, source, line) {
         Err(end) => Err(end),
         Ok(()) => match effect_on_phone(line) {
             PhoneEffect::Nothing => Ok(()),
             PhoneEffect::OutOfPlace => Err(PlayEnd::BadLine(script.number())),
-            PhoneEffect::Takes(act) => {
-                match play_on_phone(card, carrier, phone, act, places, trace) {
+            PhoneEffect::Plans(plan) => {
+                card.plan(plan);
+                Ok(())
+            }
+            PhoneEffect::Hears(said) => {
+                match hear_line(card, carrier, phone, &said, places, trace) {
                     Ok(()) => Ok(()),
                     Err(end) => Err(end_of(end)),
                 }

@@ -8,29 +8,18 @@ ghost use Rattle.run_steps.specs.Carriers.{Carries};
 ghost use Rattle.run_steps.specs.Ends.{moment_at};
 ghost use Rattle.run_steps.specs.Tallies.{Tallies, tally};
 ghost use Rattle.phone_runs.specs.Logs.{Event, Hears, lines_back};
-ghost use Rattle.phone_runs.specs.Playing.{Begins, IsFit, line_of, span_of_move};
+ghost use Rattle.phone_runs.specs.Playing.{Begins};
 ghost use Rattle.phone_runs.specs.Runs.{Beginning};
 ghost use Rattle.phone_runs.specs.Settling.{IsAt, Settles};
-ghost use Rattle.phone_runs.specs.Serving.{IsAtRest, LineIsCarried};
+ghost use Rattle.phone_runs.specs.Serving.{IsAtRest};
 
 use crate::serving::{Places, settle};
 use applet_trait::Applet;
 use byte_streams::Sink;
-use card_model::plans_are_set_in_order;
 use run_steps::{CardEnd, Carrier, StepEnd};
 use script_form::HandsetLine;
 use store_form::Store;
 use terminal_side::Phone;
-use uicc_types::Plan;
-
-/// What a line is for the handset.
-#[derive(Debug, Drop)]
-pub enum PhoneMove {
-    /// Something happens at it.
-    Hears(HandsetLine),
-    /// Faults are planned for the next command or reset.
-    Plans(Plan),
-}
 
 /// Starts a new handset on a card that was just opened, and does all that it asks for at first.
 pub fn start_phone<S: Store, B: Applet, W: Sink>(
@@ -53,40 +42,6 @@ pub fn start_phone<S: Store, B: Applet, W: Sink>(
 {
     phone.start();
     settle(card, carrier, phone, places, trace)
-}
-
-/// Carries out a line, and does all that the handset asks for then. Faults that are planned wait for the next command or reset.
-pub fn play_on_phone<S: Store, B: Applet, W: Sink>(
-    card: &mut CardEnd<S, B>,
-    carrier: &mut Carrier,
-    phone: &mut Phone,
-    line: PhoneMove,
-    places: &mut Places,
-    trace: &mut W,
-) -> Result<(), StepEnd>
-    requires rest { IsAtRest phone.old }
-    requires fit { IsFit phone.old.known.clock line }
-    ensures plays { (given : Beginning) (log : List Event)
-        → IsAt given log phone.old (moment_at card.old (W.taken trace.old))
-        → Settles given (line_of line ∷ lines_back log) phone.new (moment_at card.new (W.taken trace.new))
-        result }
-    ensures rest { OnOk result (IsAtRest phone.new) }
-    ensures clock { OnOk result (phone.new.known.clock ≡ phone.old.known.clock + span_of_move line) }
-    ensures carried { OnOk result (LineIsCarried phone.old phone.new carrier.old carrier.new) }
-    ensures failed { result ≡ Err StepEnd.ResetFailed
-        → Rose card.old.parts.meter.faults card.new.parts.meter.faults }
-    ensures tallies { Tallies (tally W.Sink card.old trace.old) (tally W.Sink card.new trace.new)
-        (result ≡ Err StepEnd.SinkFailed) }
-{
-    // This call is a law, and does nothing.
-    plans_are_set_in_order();
-    match line {
-        PhoneMove::Hears(line) => hear_line(card, carrier, phone, &line, places, trace),
-        PhoneMove::Plans(plan) => {
-            card.plan(plan);
-            Ok(())
-        }
-    }
 }
 
 /// Hands a line to the handset, and does all that it asks for then.

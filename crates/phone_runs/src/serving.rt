@@ -15,9 +15,10 @@ use applet_trait::Applet;
 use byte_streams::{Failed, Sink};
 use card_model::{plans_are_set_in_order, runs_are_counted};
 use handset_model::lines_end;
-use run_steps::{CardEnd, Carrier, Reply, Restarted, StepEnd, exchange, restart};
+use run_steps::{CardEnd, Carrier, Restarted, StepEnd, exchange, restart};
 use script_form::{Note, write_note};
 use store_form::Store;
+use t0_link::LinkFault;
 use terminal_side::{Next, Phone};
 use uicc_types::{Answer, ApduBytes};
 
@@ -101,11 +102,11 @@ fn serve<S: Store, B: Applet, W: Sink>(
         Next::Send => {
             let apdu = places.apdu.as_slice();
             match exchange(card, carrier, apdu, &mut places.answer, trace) {
-                Ok(reply) => {
-                    hear(phone, reply, &places.answer);
+                Ok(outcome) => {
+                    hear(phone, outcome, &places.answer);
                     Ok(true)
                 }
-                Err(end) => Err(end),
+                Err(Failed) => Err(StepEnd::SinkFailed),
             }
         }
         Next::Reset => match restart(card, trace) {
@@ -123,12 +124,12 @@ fn serve<S: Store, B: Applet, W: Sink>(
 }
 
 /// Tells the handset what came of its command.
-fn hear(phone: &mut Phone, reply: Reply, answer: &Answer)
-    ensures { (h : List Happened) → phone.old ≡ kept h → phone.new ≡ kept (replied reply answer.now ∷ h) }
+fn hear(phone: &mut Phone, outcome: Result<(), LinkFault>, answer: &Answer)
+    ensures { (h : List Happened) → phone.old ≡ kept h → phone.new ≡ kept (replied outcome answer.now ∷ h) }
 {
-    match reply {
-        Reply::Answered => phone.take_answer(answer),
-        Reply::Cut | Reply::Off => phone.lost_power(),
+    match outcome {
+        Ok(()) => phone.take_answer(answer),
+        Err(LinkFault::PowerLost | LinkFault::NoPower) => phone.lost_power(),
     }
 }
 

@@ -22,7 +22,7 @@ use Rattle.run_steps.proofs.SendsLemmas.{bare_reply, sends_off}
 use Rattle.run_steps.proofs.DeliversLemmas.{off_counted}
 use Rattle.run_steps.proofs.ItemOfLemmas.{IsShownAs, IsShownAsOne, command_shown, counted_over, cut, cut_over, failed}
 use Rattle.run_steps.proofs.SteppingLemmas.{idle_counted}
-use Rattle.run_steps.specs.Ends.{Comes, End, Meets, MeetsAnswer, MeetsCut, end_words, reply_for}
+use Rattle.run_steps.specs.Ends.{Comes, End, Meets, MeetsAnswer, MeetsCut, end_words}
 use Rattle.run_steps.specs.Runs.{is_calm}
 use Rattle.run_steps.specs.Taking.{machine_of, Sends, seen}
 use Rattle.run_steps.proofs.StandingLemmas.{machine_is}
@@ -47,7 +47,7 @@ off_so old new apdu off same = record {
 }
 
 pub came : (result : Result ⊤ LinkFault) (old new : End) (apdu : List ℕ) (out : Answer)
-    → Transmits {E = End} (λ end. end.parts.is_on) MeetsAnswer MeetsCut old new apdu result out → Comes old apdu (seen (reply_for result) out) new
+    → Transmits {E = End} (λ end. end.parts.is_on) MeetsAnswer MeetsCut old new apdu result out → Comes old apdu (seen result out) new
 came (Ok done) old new apdu out met = met_so old new apdu (item_of out) met
 came (Err PowerLost) old new apdu out met = met_so old new apdu item.Cut met.0
 came (Err NoPower) old new apdu out met = off_so old new apdu met.0 met.1
@@ -99,7 +99,7 @@ module _ (old new : End) (bytes : List ℕ) where
   }
 
   by_course : (passed : List ℕ) (expected : Option ℕ) (course : Course) (result : Result ⊤ LinkFault) (left : Linked) → ((machine : Machine) → machine_of old.parts ≡ Some machine → GivesOwnStep machine bytes course)
-      → GivesAnswer passed expected course → IsShownAsOne course → Exchanges end_words old new course result left → Comes old bytes (seen (reply_for result) left.answer) new
+      → GivesAnswer passed expected course → IsShownAsOne course → Exchanges end_words old new course result left → Comes old bytes (seen result left.answer) new
   by_course passed expected (Answers linked) result left own passes once exchanged = absurd passes
   by_course passed expected (Passes apdu make) (Ok done) left own passes once exchanged =
       passed_so apdu make (item_of exchanged.answer) (item_of left.answer) own once exchanged.transmitted (ap (λ (l : Linked). item_of l.answer) exchanged.answered)
@@ -107,7 +107,7 @@ module _ (old new : End) (bytes : List ℕ) where
   by_course passed expected (Passes apdu make) (Err NoPower) left own passes once exchanged = off_so old new bytes exchanged.transmitted.0 exchanged.transmitted.1
 
   pub came_over : LinkChangesNoStep → IsCardReady old.parts → AreBytes bytes → IsTrue (carried bytes) → (kept : Option Answer) (result : Result ⊤ LinkFault) (left : Linked)
-      → IfSome (command_in bytes) (λ command. Exchanges end_words old new (command_answer kept command) result left) → Comes old bytes (seen (reply_for result) left.answer) new
+      → IfSome (command_in bytes) (λ command. Exchanges end_words old new (command_answer kept command) result left) → Comes old bytes (seen result left.answer) new
   came_over steps ready are_bytes carries kept result left exchanged =
       let found = carried_command bytes carries in
       by_course (passed_apdu found.command) found.command.expected (command_answer kept found.command) result left

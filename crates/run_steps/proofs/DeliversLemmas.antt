@@ -19,7 +19,7 @@ use Rattle.t0_link.specs.Tpdus.{is_passed, is_passed_by, transfer_in}
 use Rattle.card_model.specs.Counts.{IsCounted}
 use Rattle.card_model.specs.Laws.{PlansAreCounted}
 use Rattle.card_model.specs.Runs.{due}
-use Rattle.run_steps.specs.Ends.{End, Meets, MeetsAnswer, MeetsCut, TakesCommand, planned, reply_for, unplanned, with_plan_set, without_plan}
+use Rattle.run_steps.specs.Ends.{End, Meets, MeetsAnswer, MeetsCut, TakesCommand, planned, unplanned, with_plan_set, without_plan}
 use Rattle.run_steps.specs.TakingTpdus.{Delivers, IsPrepared}
 use Rattle.run_steps.specs.Tpdus.{item_of, kept_over, shown_over}
 use Rattle.run_steps.specs.Taking.{machine_of, RestsOn, seen}
@@ -31,7 +31,7 @@ use Rattle.run_steps.proofs.SteppingLemmas.{Showed, WithPlan, command_showed, co
 -- ---- a command that is passed to a card's end
 
 pub transmits : (result : Result ⊤ LinkFault) (old new : End) (apdu : List ℕ) (out : Answer)
-    → TakesCommand old.parts apdu (seen (reply_for result) out) new.parts → new.waiting ≡ old.waiting
+    → TakesCommand old.parts apdu (seen result out) new.parts → new.waiting ≡ old.waiting
     → (result ≡ Err PowerLost → new.parts.is_on ≡ false) → (result ≡ Err NoPower → old.parts.is_on ≡ false) → (result ≡ Err NoPower → new ≡ old)
     → Transmits {E = End} (λ end. end.parts.is_on) MeetsAnswer MeetsCut old new apdu result out
 transmits (Ok done) old new apdu out takes waits goes off same = record { takes = takes; waits = waits }
@@ -94,7 +94,7 @@ module _ (words : EndpointWords End) (old : CardView) (from set sent to : End) (
   met_showed apdu shown given met = command_showed old apdu shown set.parts sent.parts (seen_set from set old given is) met.takes.sends met.takes.replies
 
   pub delivers : (course : Course) (result : Result ⊤ LinkFault) (left : Linked) (is_given : Bool) → IsPrepared course from is_given set → to ≡ without_plan is_given sent → Exchanges words set sent course result left → OnErr result (left.kept ≡ None)
-      → Delivers old course (seen (reply_for result) left.answer) left.kept from to
+      → Delivers old course (seen result left.answer) left.kept from to
   delivers (Answers linked) (Ok done) left is_given given same exchanged none =
       let stays : to ≡ from = same ∙ ap (λ b. without_plan b sent) given.1 ∙ exchanged.0 ∙ given.0 in
       record {

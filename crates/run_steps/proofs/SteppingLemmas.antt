@@ -26,11 +26,9 @@ use Rattle.run_steps.specs.declared.steps.Restarted.{Restarted}
 use Rattle.run_steps.specs.declared.steps.Restarted.TheVariants as ended
 use Rattle.run_steps.specs.Ends.{Comes, End, TakesReset, disarmed, moment_at, planned, unplanned, with_plan_set, without_plan}
 use Rattle.run_steps.specs.Runs.{ends_calm, is_calm, item_text, line_of, text_of}
-use Rattle.run_steps.specs.Taking.{machine_of, BreaksStep, EndsStep, GivesShowing, GivesStep, IsTakenBack, Rests, RestsOn, Sends, TakesShowing, TakesStep, moment, restarted_by, shown_of}
+use Rattle.run_steps.specs.Taking.{machine_of, BreaksStep, EndsStep, IsTakenBack, Rests, RestsOn, Sends, TakesShowing, TakesStep, moment, restarted_by, shown_of}
 use Rattle.run_steps.specs.Stepping.{BreaksOff, Holds, IsCutOff, IsSeenBy, Stands}
 use Rattle.run_steps.specs.Views.{CardView, IsReply, ItsPower, Known, LastShows, StepShows, TheCard}
-use Rattle.run_steps.specs.declared.steps.StepEnd.{StepEnd}
-use Rattle.run_steps.specs.declared.steps.StepEnd.TheVariants.{SinkFailed, ResetFailed}
 use Rattle.run_steps.proofs.StandingLemmas.{machine_minds, machine_stands}
 
 -- ---- what was taken
@@ -247,16 +245,16 @@ pub rests_back : (card : CardView) (items : List TraceItem) (shown : TraceItem) 
 rests_back (TheCard machine) items shown from sent after same last some rests = λ nothing calm. same ∙ rests (last calm)
 rests_back (ItsPower on) items shown from sent after same last some rests = tt
 
--- a step that was taken, with a plan set before it and taken back after it: its last line was written, or the sink failed in that
+-- a step that was taken, with a plan set before it and taken back after it, and its last line
 module _ (old : CardView) (step : Step) (whole : List TraceItem) (shown : TraceItem) (from set sent after : End) (taken mid now : Option (List ℕ)) (plans : PlansAreCounted)
     (showed : Showed old step (whole ++ shown ∷ []) shown sent.parts) (with_it : WithPlan from set sent after) (counts : IsCounted from.parts.meter after.parts.meter (armed_after from.waiting (step ∷ [])) (whole ++ shown ∷ []))
     (back : IsTakenBack (armed_after from.waiting (step ∷ [])) after.parts.meter)
     (waits : waiting_after from.waiting (step ∷ []) ≡ NONE) (last : ends_calm (whole ++ shown ∷ []) ≡ true → is_calm shown ≡ true) (some : whole ++ shown ∷ [] ≡ [] → ⊥)
     (off : (card : CardView) → StepShows old step (whole ++ shown ∷ []) card → BreaksOff old step (whole ++ shown ∷ []) (armed_after from.waiting (step ∷ [])) (armed_after from.waiting (step ∷ [])) card)
     (told : mid ≡ append_known taken (text_of whole)) where
-  pub writes_last : (result : Result (Unit {0}) StepEnd) → OnOk result (now ≡ append_known mid (item_text shown)) → OnErr result (Becomes (TakesFront (item_text shown)) mid now) → OnErr result (result ≡ Err SinkFailed)
-      → GivesShowing result (λ done. whole ++ shown ∷ []) old step (moment_at from taken) (moment_at after now)
-  writes_last (Ok done) ok err sink = record {
+  -- it was written
+  pub writes_last : now ≡ append_known mid (item_text shown) → TakesShowing (whole ++ shown ∷ []) old step (moment_at from taken) (moment_at after now)
+  writes_last ok = record {
     taken = record {
       card = showed.card;
       shown = whole ++ shown ∷ [];
@@ -270,7 +268,10 @@ module _ (old : CardView) (step : Step) (whole : List TraceItem) (shown : TraceI
     };
     shows = refl;
   }
-  writes_last (Err SinkFailed) ok err sink =
+
+  -- the sink failed in it
+  pub breaks_last : Becomes (TakesFront (item_text shown)) mid now → BreaksStep old step (moment_at from taken) (moment_at after now)
+  breaks_last err =
       let front = told_front mid now (item_text shown) err in
       record {
         card = showed.card;
@@ -284,7 +285,6 @@ module _ (old : CardView) (step : Step) (whole : List TraceItem) (shown : TraceI
         counted = counts;
         back = back;
       }
-  writes_last (Err ResetFailed) ok err sink = absurd (cc)
 
 -- ---- a command
 
@@ -293,17 +293,25 @@ pub counted_with_plan : PlansAreCounted → (from set sent after : End) (shown :
 counted_with_plan plans from set sent after shown done counts =
     counted_after plans from.parts.meter set.parts.meter sent.parts.meter after.parts.meter from.waiting (shown ∷ []) (ap (λ (e : End). e.parts.meter) done.given) (ap (λ (e : End). e.parts.meter) done.back) counts
 
--- a command that came to it, and what came of that
-pub exchanges_at : (result : Result (Unit {0}) StepEnd) (apdu : List ℕ) (old : CardView) (from set sent after : End) (taken mid now : Option (List ℕ)) (shown : TraceItem)
-    → PlansAreCounted → IsSeenBy old (machine_of from.parts) from.parts.is_on → WithPlan from set sent after → mid ≡ append_known taken (trace_text (line.Command apdu)) → Comes set apdu shown sent
-    → OnOk result (now ≡ append_known mid (item_text shown)) → OnErr result (Becomes (TakesFront (item_text shown)) mid now) → OnErr result (result ≡ Err SinkFailed)
-    → GivesShowing result (λ done. item.Command apdu ∷ shown ∷ []) old (step.Apdu apdu) (moment_at from taken) (moment_at after now)
-exchanges_at result apdu old from set sent after taken mid now shown plans is with_it command comes ok err sink =
-    writes_last old (step.Apdu apdu) (item.Command apdu ∷ []) shown from set sent after taken mid now plans
-    (command_showed old apdu shown set.parts sent.parts (seen_set from set old with_it.given is) comes.sends comes.replies) with_it
-    (with_command from.parts.meter after.parts.meter (due from.waiting ++ []) apdu shown (counted_with_plan plans from set sent after shown with_it comes.counted))
-    (taken_back from set sent after with_it) refl (λ calm. calm) (λ none. absurd (cc)) (λ card gives. inr (gives, refl))
-    (command ∙ ap (append_known taken) (sym (text_of_one (item.Command apdu)))) result ok err sink
+-- a command that came to it, and the line of what came of that: it was written, or broke off
+module _ (apdu : List ℕ) (old : CardView) (from set sent after : End) (taken mid now : Option (List ℕ)) (shown : TraceItem) (plans : PlansAreCounted) (is : IsSeenBy old (machine_of from.parts) from.parts.is_on)
+    (with_it : WithPlan from set sent after) (command : mid ≡ append_known taken (trace_text (line.Command apdu))) (comes : Comes set apdu shown sent) where
+  showed_so : Showed old (step.Apdu apdu) (item.Command apdu ∷ shown ∷ []) shown sent.parts
+  showed_so = command_showed old apdu shown set.parts sent.parts (seen_set from set old with_it.given is) comes.sends comes.replies
+
+  counted_so : IsCounted from.parts.meter after.parts.meter (due from.waiting ++ []) (item.Command apdu ∷ shown ∷ [])
+  counted_so = with_command from.parts.meter after.parts.meter (due from.waiting ++ []) apdu shown (counted_with_plan plans from set sent after shown with_it comes.counted)
+
+  told_so : mid ≡ append_known taken (text_of (item.Command apdu ∷ []))
+  told_so = command ∙ ap (append_known taken) (sym (text_of_one (item.Command apdu)))
+
+  pub replies_at : now ≡ append_known mid (item_text shown) → TakesShowing (item.Command apdu ∷ shown ∷ []) old (step.Apdu apdu) (moment_at from taken) (moment_at after now)
+  replies_at ok =
+      writes_last old (step.Apdu apdu) (item.Command apdu ∷ []) shown from set sent after taken mid now plans showed_so with_it counted_so (taken_back from set sent after with_it) refl (λ calm. calm) (λ none. absurd (cc)) (λ card gives. inr (gives, refl)) told_so ok
+
+  pub breaks_reply : Becomes (TakesFront (item_text shown)) mid now → BreaksStep old (step.Apdu apdu) (moment_at from taken) (moment_at after now)
+  breaks_reply err =
+      breaks_last old (step.Apdu apdu) (item.Command apdu ∷ []) shown from set sent after taken mid now plans showed_so with_it counted_so (taken_back from set sent after with_it) refl (λ calm. calm) (λ none. absurd (cc)) (λ card gives. inr (gives, refl)) told_so err
 
 -- the line of the command broke off
 pub breaks_command : (apdu : List ℕ) (old : CardView) (from : End) (taken now : Option (List ℕ)) → IsSeenBy old (machine_of from.parts) from.parts.is_on → Becomes (TakesFront (trace_text (line.Command apdu))) taken now
@@ -326,79 +334,64 @@ breaks_command apdu old from taken now is broken =
 
 -- ---- a reset
 
--- a line was not written
-abbrev pub unwritten : StepEnd → Result (Unit {0}) StepEnd
-unwritten why = Err why
+module _ (old : CardView) (from set sent after : End) (taken now : Option (List ℕ)) (plans : PlansAreCounted) (with_it : WithPlan from set sent after) (seen : IsSeenBy old (machine_of from.parts) from.parts.is_on)
+    (outcome : Result Restarted MemoryFailed) (line_so : TraceLine) (is_line : line_so ≡ line_of (shown_of outcome)) (takes : TakesReset set.parts outcome sent.parts) where
+  -- what it counted
+  counted_reset : (done : Result Restarted MemoryFailed) → TakesReset set.parts done sent.parts → IsCounted from.parts.meter after.parts.meter (due from.waiting ++ []) (shown_of done ∷ [])
+  counted_reset done takes_so = counted_with_plan plans from set sent after (shown_of done) with_it takes_so.counted
 
-module _ (old : CardView) (from set sent after : End) (taken now : Option (List ℕ)) (plans : PlansAreCounted) (with_it : WithPlan from set sent after) (seen : IsSeenBy old (machine_of from.parts) from.parts.is_on) where
-  -- it was done, or power was lost in it, and its line was written or broke off
-  restarts_at : (result : Result (Unit {0}) StepEnd) (outcome : Restarted) → TakesReset set.parts (Ok outcome) sent.parts
-      → OnOk result (now ≡ append_known taken (item_text (shown_of (Ok outcome)))) → OnErr result (Becomes (TakesFront (item_text (shown_of (Ok outcome)))) taken now) → OnErr result (result ≡ Err SinkFailed)
-      → GivesShowing result (λ done. restarted_by outcome) old step.Reset (moment_at from taken) (moment_at after now)
-  restarts_at result outcome takes ok err sink =
-      writes_last old step.Reset [] (shown_of (Ok outcome)) from set sent after taken taken now plans (reset_showed old outcome set.parts sent.parts (seen_set from set old with_it.given seen) takes) with_it
-      (counted_with_plan plans from set sent after (shown_of (Ok outcome)) with_it takes.counted) (taken_back from set sent after with_it) refl (λ calm. calm) (λ none. absurd (cc)) (λ card gives. (inl gives, refl)) (sym (taken_none taken)) result ok err sink
+  -- it was done, or power was lost in it
+  showed_reset : (done : Restarted) → TakesReset set.parts (Ok done) sent.parts → Showed old step.Reset (restarted_by done) (shown_of (Ok done)) sent.parts
+  showed_reset done takes_so = reset_showed old done set.parts sent.parts (seen_set from set old with_it.given seen) takes_so
 
-  -- the memory failed in it, and the line that says so was written
-  restart_failed : (failed : MemoryFailed) → TakesReset set.parts (Err failed) sent.parts → now ≡ append_known taken (item_text item.EepromFailed) → EndsStep old step.Reset (moment_at from taken) (moment_at after now)
-  restart_failed failed takes ok =
-      let ended_so = reset_failed_so old failed set.parts sent.parts (seen_set from set old with_it.given seen) takes in
-      record {
-        card = ended_so.card;
-        shown = item.EepromFailed ∷ [];
-        stands = holds_back (names_fault from.waiting) sent after ended_so.card with_it.back ended_so.stands;
-        ends = ended_so.ends;
-        written = ok ∙ ap (append_known taken) (sym (text_of_one item.EepromFailed));
-        counted = counted_with_plan plans from set sent after item.EepromFailed with_it takes.counted;
-        back = taken_back from set sent after with_it;
-      }
+  -- the memory failed in it
+  failed_so : (failed : MemoryFailed) → TakesReset set.parts (Err failed) sent.parts → Failed old after.parts
+  failed_so failed takes_so =
+      let ended_so = reset_failed_so old failed set.parts sent.parts (seen_set from set old with_it.given seen) takes_so in
+      record { card = ended_so.card; stands = holds_back (names_fault from.waiting) sent after ended_so.card with_it.back ended_so.stands; ends = ended_so.ends }
 
-  -- the sink failed in its line
-  restart_broken : (outcome : Result Restarted MemoryFailed) → TakesReset set.parts outcome sent.parts → Becomes (TakesFront (item_text (shown_of outcome))) taken now → BreaksStep old step.Reset (moment_at from taken) (moment_at after now)
-  restart_broken (Ok outcome) takes err = restarts_at (Err SinkFailed) outcome takes tt err refl
-  restart_broken (Err failed) takes err =
-      let ended_so = reset_failed_so old failed set.parts sent.parts (seen_set from set old with_it.given seen) takes in
+  -- its line broke off
+  broken_by : (done : Result Restarted MemoryFailed) → TakesReset set.parts done sent.parts → Becomes (TakesFront (item_text (shown_of done))) taken now → BreaksStep old step.Reset (moment_at from taken) (moment_at after now)
+  broken_by (Ok done) takes_so err =
+      breaks_last old step.Reset [] (shown_of (Ok done)) from set sent after taken taken now plans (showed_reset done takes_so) with_it (counted_reset (Ok done) takes_so) (taken_back from set sent after with_it) refl (λ calm. calm) (λ none. absurd (cc)) (λ card gives. (inl gives, refl)) (sym (taken_none taken)) err
+  broken_by (Err failed) takes_so err =
+      let ended_so = failed_so failed takes_so in
       let front = told_front taken now (item_text item.EepromFailed) err in
       record {
         card = ended_so.card;
         pending = item.EepromFailed ∷ [];
         front = front.front;
         set = due from.waiting ++ [];
-        stands = holds_back (names_fault from.waiting) sent after ended_so.card with_it.back ended_so.stands;
+        stands = ended_so.stands;
         broken = (inr ended_so.ends, refl);
         cut_off = in_one_line item.EepromFailed taken now front;
         written = front.written;
-        counted = counted_with_plan plans from set sent after item.EepromFailed with_it takes.counted;
+        counted = counted_reset (Err failed) takes_so;
         back = taken_back from set sent after with_it;
       }
 
-  -- the line was that of its outcome
-  module _ (outcome : Result Restarted MemoryFailed) (line_so : TraceLine) (is_line : line_so ≡ line_of (shown_of outcome)) (takes : TakesReset set.parts outcome sent.parts) where
-    pub restarted_at : (done : Restarted) → outcome ≡ Ok done → now ≡ append_known taken (trace_text line_so) → TakesShowing (restarted_by done) old step.Reset (moment_at from taken) (moment_at after now)
-    restarted_at done is ok =
-        restarts_at (Ok tt) done (subst (λ o. TakesReset set.parts o sent.parts) is takes) (ok ∙ ap (λ l. append_known taken (trace_text l)) (is_line ∙ ap (λ o. line_of (shown_of o)) is)) tt tt
+  pub restarted_at : (done : Restarted) → outcome ≡ Ok done → now ≡ append_known taken (trace_text line_so) → TakesShowing (restarted_by done) old step.Reset (moment_at from taken) (moment_at after now)
+  restarted_at done is ok =
+      let takes_so = subst (λ o. TakesReset set.parts o sent.parts) is takes in
+      writes_last old step.Reset [] (shown_of (Ok done)) from set sent after taken taken now plans (showed_reset done takes_so) with_it (counted_reset (Ok done) takes_so) (taken_back from set sent after with_it) refl (λ calm. calm) (λ none. absurd (cc)) (λ card gives. (inl gives, refl)) (sym (taken_none taken))
+      (ok ∙ ap (λ l. append_known taken (trace_text l)) (is_line ∙ ap (λ o. line_of (shown_of o)) is))
 
-    pub failed_at : (failed : MemoryFailed) → outcome ≡ Err failed → now ≡ append_known taken (trace_text line_so) → EndsStep old step.Reset (moment_at from taken) (moment_at after now)
-    failed_at failed is ok =
-        restart_failed failed (subst (λ o. TakesReset set.parts o sent.parts) is takes) (ok ∙ ap (λ l. append_known taken (trace_text l)) (is_line ∙ ap (λ o. line_of (shown_of o)) is))
+  pub failed_at : (failed : MemoryFailed) → outcome ≡ Err failed → now ≡ append_known taken (trace_text line_so) → EndsStep old step.Reset (moment_at from taken) (moment_at after now)
+  failed_at failed is ok =
+      let takes_so = subst (λ o. TakesReset set.parts o sent.parts) is takes in
+      let ended_so = failed_so failed takes_so in
+      record {
+        card = ended_so.card;
+        shown = item.EepromFailed ∷ [];
+        stands = ended_so.stands;
+        ends = ended_so.ends;
+        written = ok ∙ ap (λ l. append_known taken (trace_text l)) (is_line ∙ ap (λ o. line_of (shown_of o)) is) ∙ ap (append_known taken) (sym (text_of_one item.EepromFailed));
+        counted = counted_reset (Err failed) takes_so;
+        back = taken_back from set sent after with_it;
+      }
 
-    pub broken_at : (why : StepEnd) → unwritten why ≡ unwritten SinkFailed → Becomes (TakesFront (trace_text line_so)) taken now → GivesStep (Err why) old step.Reset (moment_at from taken) (moment_at after now)
-    broken_at SinkFailed sink err = restart_broken outcome takes (subst (λ l. Becomes (TakesFront (trace_text l)) taken now) is_line err)
-    broken_at ResetFailed sink err = absurd (cc)
-
--- ---- only a reset can be the last step
-
-pub no_last_command : (old new : CardView) (apdu : List ℕ) (items : List TraceItem) → LastShows old (step.Apdu apdu) items new → ⊥
-no_last_command (TheCard old) (TheCard new) apdu items none = none
-no_last_command (ItsPower on) (ItsPower after) apdu items none = none
-no_last_command (TheCard old) (ItsPower after) apdu items none = none
-no_last_command (ItsPower on) (TheCard new) apdu items none = none
-
-pub no_last_plan : (old new : CardView) (plan : Plan) (items : List TraceItem) → LastShows old (step.Plan plan) items new → ⊥
-no_last_plan (TheCard old) (TheCard new) plan items none = none
-no_last_plan (ItsPower on) (ItsPower after) plan items none = none
-no_last_plan (TheCard old) (ItsPower after) plan items none = none
-no_last_plan (ItsPower on) (TheCard new) plan items none = none
+  pub broken_at : Becomes (TakesFront (trace_text line_so)) taken now → BreaksStep old step.Reset (moment_at from taken) (moment_at after now)
+  broken_at err = broken_by outcome takes (subst (λ l. Becomes (TakesFront (trace_text l)) taken now) is_line err)
 
 -- ---- a plan
 

@@ -1,5 +1,5 @@
 -- A card's end of a link, and what becomes of a command that comes to it.
-use Rattle.std.specs.Prelude.{◌≡◌, ◌≤◌, Bool, true, false, if◌then◌else◌, ℕ, List, [], ◌∷◌, Option, Some, Result, Ok, Err, IsErr, ⊤}
+use Rattle.std.specs.Prelude.{◌≡◌, ◌≤◌, Bool, true, false, if◌then◌else◌, ℕ, List, [], ◌∷◌, Option, Some, Result, Ok, Err, IsErr}
 use Rattle.uicc_types.specs.Counts.{Caused, Meter, armed, names_fault, raised}
 use Rattle.uicc_types.specs.declared.answers.Answer.{Answer}
 use Rattle.uicc_types.specs.declared.plans.Plan.{Plan}
@@ -7,8 +7,6 @@ use Rattle.uicc_types.specs.declared.plans.TheConstants.Plan.{NONE}
 use Rattle.uicc_types.specs.declared.runs.TraceItem.{TraceItem}
 use Rattle.uicc_types.specs.declared.runs.TraceItem.TheVariants as item
 use Rattle.t0_link.specs.declared.endpoint.Endpoint.{Ghosts as EndpointWords}
-use Rattle.t0_link.specs.declared.endpoint.LinkFault.{LinkFault}
-use Rattle.t0_link.specs.declared.endpoint.LinkFault.TheVariants.{PowerLost, NoPower}
 use Rattle.card_model.specs.Counts.{IsCounted, is_cut, is_failure}
 use Rattle.card_model.specs.States.{Machine}
 use Rattle.card_core.specs.Parts.{CardParts}
@@ -16,8 +14,6 @@ use Rattle.run_steps.specs.Taking.{machine_of, Resets, Sends, moment, shown_of}
 use Rattle.run_steps.specs.Stepping.{Moment}
 use Rattle.run_steps.specs.Views.{IsReply}
 use Rattle.run_steps.specs.declared.steps.MemoryFailed.{MemoryFailed}
-use Rattle.run_steps.specs.declared.steps.Reply.{Reply}
-use Rattle.run_steps.specs.declared.steps.Reply.TheVariants as reply
 use Rattle.run_steps.specs.declared.steps.Restarted.{Restarted}
 use Rattle.run_steps.specs.declared.steps.Restarted.TheVariants as ended
 use Rattle.run_steps.specs.Tpdus.{item_of}
@@ -96,12 +92,6 @@ MeetsAnswer old apdu answer new = Meets old apdu (item_of answer) new
 -- the card loses power in it
 abbrev pub MeetsCut : End → List ℕ → End → Type 0
 MeetsCut old apdu new = Meets old apdu item.Cut new
-
--- what came of a command that was passed to it, as a run has it
-abbrev pub reply_for : Result ⊤ LinkFault → Reply
-reply_for (Ok done) = reply.Answered
-reply_for (Err PowerLost) = reply.Cut
-reply_for (Err NoPower) = reply.Off
 
 -- the words of this end for a link
 abbrev pub end_words : EndpointWords End

@@ -2,7 +2,6 @@ pub mod Carriers
 pub mod Ends
 pub mod Le
 pub mod Linked
-pub mod Moves
 pub mod Runs
 pub mod Standing
 pub mod Stepped

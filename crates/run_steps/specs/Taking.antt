@@ -1,6 +1,6 @@
 -- How a step is taken: from where to where, what is written and counted, and what it shows. The contracts of the functions that take steps
 -- say this; a whole run is told without it.
-use Rattle.std.specs.Prelude.{Option, option_map, ℕ, List, ◌≡◌, Bool, true, false, [], ◌∷◌, Some, Result, Ok, Err}
+use Rattle.std.specs.Prelude.{Option, option_map, ℕ, List, ◌≡◌, Bool, true, false, [], ◌∷◌, Some, Result, Ok, Err, ⊤}
 use Rattle.std.specs.Io.KnownBytes.{append_known}
 use Rattle.uicc_types.specs.Counts.{Meter}
 use Rattle.uicc_types.specs.declared.answers.Answer.{Answer}
@@ -9,6 +9,9 @@ use Rattle.uicc_types.specs.declared.runs.Step.{Step}
 use Rattle.uicc_types.specs.declared.runs.Step.TheVariants as step
 use Rattle.uicc_types.specs.declared.runs.TraceItem.{TraceItem}
 use Rattle.uicc_types.specs.declared.runs.TraceItem.TheVariants as item
+use Rattle.t0_link.specs.declared.endpoint.LinkFault.{LinkFault}
+use Rattle.t0_link.specs.declared.endpoint.LinkFault.TheVariants.{PowerLost, NoPower}
+use Rattle.byte_streams.specs.declared.streams.Failed.{Failed}
 use Rattle.card_model.specs.Counts.{IsCounted}
 use Rattle.card_model.specs.Runs.{armed_after, waiting_after, StepGives}
 use Rattle.card_model.specs.States.{Machine, powered, unpowered, restarted}
@@ -18,8 +21,6 @@ use Rattle.run_steps.specs.Runs.{ends_calm, text_of, is_calm}
 use Rattle.run_steps.specs.Stepping.{Moment, IsSeen, IsCutOff, Holds, BreaksOff}
 use Rattle.run_steps.specs.Views.{CardView, Known, StepShows, LastShows}
 use Rattle.run_steps.specs.declared.steps.MemoryFailed.{MemoryFailed}
-use Rattle.run_steps.specs.declared.steps.Reply.{Reply}
-use Rattle.run_steps.specs.declared.steps.Reply.TheVariants as reply
 use Rattle.run_steps.specs.declared.steps.Restarted.{Restarted}
 use Rattle.run_steps.specs.declared.steps.Restarted.TheVariants as ended
 use Rattle.run_steps.specs.declared.steps.StepEnd.{StepEnd}
@@ -82,33 +83,26 @@ pub record EndsStep (old : CardView) (step : Step) (from to : Moment) : Type 0 w
   pub counted : IsCounted from.meter to.meter (armed_after from.waiting (step ∷ [])) shown
   pub back : IsTakenBack (armed_after from.waiting (step ∷ [])) to.meter
 
--- what a step comes to
-abbrev pub GivesStep : Result (Unit {0}) StepEnd → CardView → Step → Moment → Moment → Type 0
-GivesStep (Ok done) old step from to = TakesStep old step from to
-GivesStep (Err SinkFailed) old step from to = BreaksStep old step from to
-GivesStep (Err ResetFailed) old step from to = EndsStep old step from to
-
 -- a step was taken, and this is what it shows
 pub record TakesShowing (shown : List TraceItem) (old : CardView) (step : Step) (from to : Moment) : Type 0 where
   pub taken : TakesStep old step from to
   pub shows : taken.shown ≡ shown
 
--- what a step comes to of which an outcome tells what it shows
-abbrev pub GivesShowing : {A : Type 0} → Result A StepEnd → (A → List TraceItem) → CardView → Step → Moment → Moment → Type 0
-GivesShowing (Ok outcome) shows old step from to = TakesShowing (shows outcome) old step from to
-GivesShowing (Err end) shows old step from to = GivesStep (Err end) old step from to
-
 -- ---- what a step shows
 
--- what the trace shows of a reply
-abbrev pub seen : Reply → Answer → TraceItem
-seen reply.Answered answer = item.Answer answer.body answer.status
-seen reply.Cut answer = item.Cut
-seen reply.Off answer = item.Off
+-- what came of a command: an answer, or none, since power was lost or there was none
+abbrev pub Outcome : Type 0
+Outcome = Result ⊤ LinkFault
 
--- of a command and a reply to it
-abbrev pub exchanged : List ℕ → Answer → Reply → List TraceItem
-exchanged apdu answer reply = item.Command apdu ∷ seen reply answer ∷ []
+-- what the trace shows of it
+abbrev pub seen : Outcome → Answer → TraceItem
+seen (Ok done) answer = item.Answer answer.body answer.status
+seen (Err PowerLost) answer = item.Cut
+seen (Err NoPower) answer = item.Off
+
+-- of the command and of that
+abbrev pub exchanged : List ℕ → Answer → Outcome → List TraceItem
+exchanged apdu answer outcome = item.Command apdu ∷ seen outcome answer ∷ []
 
 -- of a reset
 abbrev pub shown_of : Result Restarted MemoryFailed → TraceItem
@@ -119,6 +113,19 @@ shown_of (Err failed) = item.EepromFailed
 -- of one in which the memory did not fail
 abbrev pub restarted_by : Restarted → List TraceItem
 restarted_by outcome = shown_of (Ok outcome) ∷ []
+
+-- ---- what a command and a reset come to
+
+-- the sink failed, or it was taken, and this came of it
+abbrev pub GivesCommand : Result Outcome Failed → List ℕ → Answer → CardView → Moment → Moment → Type 0
+GivesCommand (Ok outcome) apdu answer old from to = TakesShowing (exchanged apdu answer outcome) old (step.Apdu apdu) from to
+GivesCommand (Err failed) apdu answer old from to = BreaksStep old (step.Apdu apdu) from to
+
+-- the card was reset, or power was lost in it, or it was the last step
+abbrev pub GivesReset : Result Restarted StepEnd → CardView → Moment → Moment → Type 0
+GivesReset (Ok outcome) old from to = TakesShowing (restarted_by outcome) old step.Reset from to
+GivesReset (Err SinkFailed) old from to = BreaksStep old step.Reset from to
+GivesReset (Err ResetFailed) old from to = EndsStep old step.Reset from to
 
 -- ---- inside a step
 

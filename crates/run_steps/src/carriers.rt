@@ -2,12 +2,11 @@
 ghost use Rattle.std.specs.Prelude.{◌≡◌, IsTrue};
 ghost use Rattle.t0_link.specs.Carrying.{RoseBy, carried, tpdus_for};
 ghost use Rattle.run_steps.specs.Carriers.{Carries};
-ghost use Rattle.run_steps.specs.Ends.{Comes, reply_for};
+ghost use Rattle.run_steps.specs.Ends.{Comes};
 ghost use Rattle.run_steps.specs.Taking.{seen};
 
 use crate::ends::CardEnd;
 use crate::link_laws::link_changes_no_step;
-use crate::steps::Reply;
 use applet_trait::Applet;
 use store_form::Store;
 use t0_link::{Endpoint, Link, LinkFault, is_carried};
@@ -31,7 +30,7 @@ impl Carrier {
         end: &mut CardEnd<S, B>,
         apdu: &[u8],
         answer: &mut Answer,
-    ) -> Reply
+    ) -> Result<(), LinkFault>
         ensures comes { Comes end.old apdu.now (seen result answer.new) end.new }
         ensures carries { Carries (tpdus_for apdu.now answer.new.body) self.old self.new }
     {
@@ -49,10 +48,14 @@ impl Carrier {
 }
 
 // Has the card take a command as it is.
-fn send<S: Store, B: Applet>(end: &mut CardEnd<S, B>, apdu: &[u8], answer: &mut Answer) -> Reply
+fn send<S: Store, B: Applet>(
+    end: &mut CardEnd<S, B>,
+    apdu: &[u8],
+    answer: &mut Answer,
+) -> Result<(), LinkFault>
     ensures { Comes end.old apdu.now (seen result answer.new) end.new }
 {
-    reply_of(end.transmit(apdu, answer))
+    end.transmit(apdu, answer)
 }
 
 // Has the card take a command over the link.
@@ -62,7 +65,7 @@ fn send_over<S: Store, B: Applet>(
     end: &mut CardEnd<S, B>,
     apdu: &[u8],
     answer: &mut Answer,
-) -> Reply
+) -> Result<(), LinkFault>
     requires { IsTrue (carried apdu.now) }
     ensures comes { Comes end.old apdu.now (seen result answer.new) end.new }
     ensures carries { RoseBy (tpdus_for apdu.now answer.new.body) link.old.tpdus link.new.tpdus }
@@ -71,16 +74,5 @@ fn send_over<S: Store, B: Applet>(
     link_changes_no_step();
     are_bytes(apdu);
     end.is_ready();
-    reply_of(link.command(end, apdu, answer))
-}
-
-// What came of a command that was given to an endpoint.
-pub(crate) fn reply_of(outcome: Result<(), LinkFault>) -> Reply
-    ensures { result ≡ reply_for outcome }
-{
-    match outcome {
-        Ok(()) => Reply::Answered,
-        Err(LinkFault::PowerLost) => Reply::Cut,
-        Err(LinkFault::NoPower) => Reply::Off,
-    }
+    link.command(end, apdu, answer)
 }

@@ -3,7 +3,7 @@ ghost use Rattle.std.specs.Prelude.{◌≡◌, ◌↔◌, false, [], Err, IsErrO
 ghost use Rattle.uicc_types.specs.Counts.{CountsFailure, names_fault as is_named};
 ghost use Rattle.card_model.specs.Runs.{plans_joined};
 ghost use Rattle.card_core.specs.Cards.{parts_of, IsCardReady};
-ghost use Rattle.run_steps.specs.Ends.{TakesCommand, TakesReset, reply_for, with_plan_set, without_plan};
+ghost use Rattle.run_steps.specs.Ends.{TakesCommand, TakesReset, with_plan_set, without_plan};
 ghost use Rattle.run_steps.specs.Taking.{seen};
 
 use crate::steps::{MemoryFailed, Restarted};
@@ -131,7 +131,7 @@ fn send<S: Store, B: Applet>(
     out: &mut Answer,
 ) -> Result<(), LinkFault>
     requires ready { IsCardReady (parts_of S.Store B.Applet card.old) }
-    ensures takes { TakesCommand (parts_of S.Store B.Applet card.old) apdu.now (seen (reply_for result) out.new)
+    ensures takes { TakesCommand (parts_of S.Store B.Applet card.old) apdu.now (seen result out.new)
         (parts_of S.Store B.Applet card.new) }
     ensures ready { IsCardReady (parts_of S.Store B.Applet card.new) }
     ensures off { (result ≡ Err LinkFault.NoPower) ↔ ((parts_of S.Store B.Applet card.old).is_on ≡ false) }

@@ -5,13 +5,11 @@
 mod carriers;
 mod ends;
 mod link_laws;
-mod moves;
 mod steps;
 mod tpdus;
 
 pub use carriers::Carrier;
 pub use ends::CardEnd;
 pub use link_laws::{le_cuts_alone, link_changes_no_answer, link_changes_no_step};
-pub use moves::Move;
-pub use steps::{MemoryFailed, Reply, Restarted, StepEnd, exchange, restart, take_step};
+pub use steps::{MemoryFailed, Restarted, StepEnd, exchange, restart};
 pub use tpdus::take_tpdu;

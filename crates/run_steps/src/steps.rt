@@ -1,50 +1,37 @@
 //! What is done to the card, and what the trace shows of it.
-ghost use Rattle.std.specs.Prelude.{◌≡◌, ◌≢◌, ◌≤◌, Err, OnOk, OnErr, is_some, length};
+ghost use Rattle.std.specs.Prelude.{◌≡◌, ◌≤◌, Err, IsErr, OnOk, OnErr, is_some, length};
 ghost use Rattle.std.specs.Io.KnownBytes.{append_known};
 ghost use Rattle.uicc_types.specs.Counts.{CountsFailure, raised};
 ghost use Rattle.uicc_types.specs.Told.{Becomes};
 ghost use Rattle.uicc_types.specs.declared.byte_lists.TheConstants.{LONGEST_COMMAND};
-ghost use Rattle.uicc_types.specs.declared.runs.Step.TheVariants as step;
 ghost use Rattle.byte_streams.specs.Streams.{TakesFront};
 ghost use Rattle.script_form.specs.Traces.{trace_text};
 ghost use Rattle.t0_link.specs.Carrying.{tpdus_for};
 ghost use Rattle.run_steps.specs.Carriers.{Carries};
 ghost use Rattle.run_steps.specs.Ends.{moment_at};
-ghost use Rattle.run_steps.specs.Moves.{IsShort, step_of};
 ghost use Rattle.run_steps.specs.Runs.{item_text, line_of};
-ghost use Rattle.run_steps.specs.Taking.{GivesShowing, GivesStep, exchanged, restarted_by, seen, shown_of};
+ghost use Rattle.run_steps.specs.Taking.{GivesCommand, GivesReset, seen, shown_of};
 ghost use Rattle.run_steps.specs.Stepping.{IsSeen};
 ghost use Rattle.run_steps.specs.Tallies.{Tallies, tally};
 ghost use Rattle.run_steps.specs.Views.{CardView};
 
 use crate::carriers::Carrier;
 use crate::ends::CardEnd;
-use crate::moves::Move;
 use applet_trait::Applet;
 use byte_streams::{Failed, Sink};
 use card_model::runs_are_counted;
 use script_form::{TraceLine, write_answer, write_command, write_trace};
 use store_form::Store;
+use t0_link::LinkFault;
 use uicc_types::Answer;
 
-/// Why a step is the last.
+/// Why a reset is the last step.
 #[derive(Clone, Copy, Debug, PartialEq, Eq)]
 pub enum StepEnd {
     /// The trace could not be written on.
     SinkFailed,
     /// The memory failed in a reset. The trace says so.
     ResetFailed,
-}
-
-/// What came of a command.
-#[derive(Clone, Copy, Debug, PartialEq, Eq)]
-pub enum Reply {
-    /// The card answered it.
-    Answered,
-    /// Power was lost in it.
-    Cut,
-    /// There was no power.
-    Off,
 }
 
 /// What came of a reset in which the memory did not fail.
@@ -60,40 +47,6 @@ pub enum Restarted {
 #[derive(Clone, Copy, Debug, PartialEq, Eq)]
 pub struct MemoryFailed;
 
-/// Takes a step, and writes what it shows.
-pub fn take_step<S: Store, B: Applet, W: Sink>(
-    end: &mut CardEnd<S, B>,
-    carrier: &mut Carrier,
-    step: Move<'_>,
-    answer: &mut Answer,
-    trace: &mut W,
-) -> Result<(), StepEnd>
-    requires short { IsShort step }
-    // By what is known of the card: the card itself where its memory tells its bytes, and its power over any memory.
-    ensures gives { (old : CardView) → IsSeen old (moment_at end.old (W.taken trace.old))
-        → GivesStep result old (step_of step.entry) (moment_at end.old (W.taken trace.old))
-        (moment_at end.new (W.taken trace.new)) }
-    ensures failed { result ≡ Err StepEnd.ResetFailed
-        → end.new.parts.meter.faults ≡ raised end.old.parts.meter.faults }
-    ensures tallies { Tallies (tally W.Sink end.old trace.old) (tally W.Sink end.new trace.new)
-        (result ≡ Err StepEnd.SinkFailed) }
-{
-    match step {
-        Move::Send(apdu) => match exchange(end, carrier, apdu, answer, trace) {
-            Ok(_) => Ok(()),
-            Err(why) => Err(why),
-        },
-        Move::Reset => match restart(end, trace) {
-            Ok(_) => Ok(()),
-            Err(why) => Err(why),
-        },
-        Move::Plans(plan) => {
-            end.plan(plan);
-            Ok(())
-        }
-    }
-}
-
 /// Sends a command to the card, as it is or over a link, and answers what came of it; an answer stands in `answer`. The command's
 /// line is written first, and where the sink fails in it, the card is sent nothing. The trace is the same over either carrier; over a link
 /// that carries the command its TPDUs are counted there. Each command passes through it, so it is inlined.
@@ -104,54 +57,51 @@ pub fn exchange<S: Store, B: Applet, W: Sink>(
     apdu: &[u8],
     answer: &mut Answer,
     trace: &mut W,
-) -> Result<Reply, StepEnd>
+) -> Result<Result<(), LinkFault>, Failed>
     requires short { length apdu.now ≤ LONGEST_COMMAND }
     // By what is known of the card: the card itself where its memory tells its bytes, and its power over any memory.
     ensures gives { (old : CardView) → IsSeen old (moment_at end.old (W.taken trace.old))
-        → GivesShowing result (exchanged apdu.now answer.new) old (step.Apdu apdu.now)
-        (moment_at end.old (W.taken trace.old)) (moment_at end.new (W.taken trace.new)) }
-    ensures ends { result ≢ Err StepEnd.ResetFailed }
+        → GivesCommand result apdu.now answer.new old (moment_at end.old (W.taken trace.old))
+        (moment_at end.new (W.taken trace.new)) }
     ensures carries { OnOk result (Carries (tpdus_for apdu.now answer.new.body) carrier.old carrier.new) }
-    ensures tallies { Tallies (tally W.Sink end.old trace.old) (tally W.Sink end.new trace.new)
-        (result ≡ Err StepEnd.SinkFailed) }
+    ensures tallies { Tallies (tally W.Sink end.old trace.old) (tally W.Sink end.new trace.new) (IsErr result) }
 {
     // This call is a law, and does nothing.
     runs_are_counted();
     match write_command(trace, apdu) {
         Ok(()) => {
             let is_set = end.set_plan();
-            let reply = carrier.send(end, apdu, answer);
+            let outcome = carrier.send(end, apdu, answer);
             end.clear_plan(is_set);
-            match write_reply(trace, reply, answer) {
-                Ok(()) => Ok(reply),
-                Err(why) => Err(why),
+            match write_reply(trace, outcome, answer) {
+                Ok(()) => Ok(outcome),
+                Err(Failed) => Err(Failed),
             }
         }
-        Err(Failed) => Err(StepEnd::SinkFailed),
+        Err(Failed) => Err(Failed),
     }
 }
 
 /// Writes what came of a command.
 pub(crate) fn write_reply<W: Sink>(
     trace: &mut W,
-    reply: Reply,
+    outcome: Result<(), LinkFault>,
     answer: &Answer,
-) -> Result<(), StepEnd>
+) -> Result<(), Failed>
     ensures ok { OnOk result (W.taken trace.new ≡ append_known (W.taken trace.old)
-        (item_text (seen reply answer.now))) }
-    ensures err { OnErr result (Becomes (TakesFront (item_text (seen reply answer.now)))
+        (item_text (seen outcome answer.now))) }
+    ensures err { OnErr result (Becomes (TakesFront (item_text (seen outcome answer.now)))
         (W.taken trace.old) (W.taken trace.new)) }
-    ensures sink { OnErr result (result ≡ Err StepEnd.SinkFailed) }
-    ensures cause { CountsFailure (W.faults trace.old) (W.faults trace.new) (result ≡ Err StepEnd.SinkFailed) }
+    ensures cause { CountsFailure (W.faults trace.old) (W.faults trace.new) (IsErr result) }
     ensures tells { is_some (W.taken trace.new) ≡ is_some (W.taken trace.old) }
 {
-    match reply {
-        Reply::Answered => match write_answer(trace, answer) {
+    match outcome {
+        Ok(()) => match write_answer(trace, answer) {
             Ok(()) => Ok(()),
-            Err(Failed) => Err(StepEnd::SinkFailed),
+            Err(Failed) => Err(Failed),
         },
-        Reply::Cut => write_step(trace, &TraceLine::Cut),
-        Reply::Off => write_step(trace, &TraceLine::Off),
+        Err(LinkFault::PowerLost) => write_step(trace, &TraceLine::Cut),
+        Err(LinkFault::NoPower) => write_step(trace, &TraceLine::Off),
     }
 }
 
@@ -162,8 +112,7 @@ pub fn restart<S: Store, B: Applet, W: Sink>(
 ) -> Result<Restarted, StepEnd>
     // By what is known of the card: the card itself where its memory tells its bytes, and its power over any memory.
     ensures gives { (old : CardView) → IsSeen old (moment_at end.old (W.taken trace.old))
-        → GivesShowing result restarted_by old step.Reset (moment_at end.old (W.taken trace.old))
-        (moment_at end.new (W.taken trace.new)) }
+        → GivesReset result old (moment_at end.old (W.taken trace.old)) (moment_at end.new (W.taken trace.new)) }
     ensures failed { result ≡ Err StepEnd.ResetFailed
         → end.new.parts.meter.faults ≡ raised end.old.parts.meter.faults }
     ensures tallies { Tallies (tally W.Sink end.old trace.old) (tally W.Sink end.new trace.new)
@@ -179,7 +128,7 @@ pub fn restart<S: Store, B: Applet, W: Sink>(
             Ok(restarted) => Ok(restarted),
             Err(MemoryFailed) => Err(StepEnd::ResetFailed),
         },
-        Err(why) => Err(why),
+        Err(Failed) => Err(StepEnd::SinkFailed),
     }
 }
 
@@ -196,15 +145,14 @@ fn reset_line(outcome: Result<Restarted, MemoryFailed>) -> TraceLine
 
 /// Writes a line of a step. Few steps have one, so it is out of the way of the others.
 #[inline(never)]
-fn write_step<W: Sink>(trace: &mut W, line: &TraceLine) -> Result<(), StepEnd>
+fn write_step<W: Sink>(trace: &mut W, line: &TraceLine) -> Result<(), Failed>
     ensures ok { OnOk result (W.taken trace.new ≡ append_known (W.taken trace.old) (trace_text line.now)) }
     ensures err { OnErr result (Becomes (TakesFront (trace_text line.now)) (W.taken trace.old) (W.taken trace.new)) }
-    ensures sink { OnErr result (result ≡ Err StepEnd.SinkFailed) }
-    ensures cause { CountsFailure (W.faults trace.old) (W.faults trace.new) (result ≡ Err StepEnd.SinkFailed) }
+    ensures cause { CountsFailure (W.faults trace.old) (W.faults trace.new) (IsErr result) }
     ensures tells { is_some (W.taken trace.new) ≡ is_some (W.taken trace.old) }
 {
     match write_trace(trace, line) {
         Ok(()) => Ok(()),
-        Err(Failed) => Err(StepEnd::SinkFailed),
+        Err(Failed) => Err(Failed),
     }
 }

@@ -11,15 +11,14 @@ ghost use Rattle.run_steps.specs.Stepping.{IsSeen, IsSeenBy};
 ghost use Rattle.run_steps.specs.Tallies.{Tallies, tally};
 ghost use Rattle.run_steps.specs.Views.{CardView};
 
-use crate::carriers::reply_of;
 use crate::ends::CardEnd;
-use crate::steps::{Reply, write_reply};
+use crate::steps::write_reply;
 use applet_trait::Applet;
 use byte_streams::{Failed, Sink};
 use card_model::runs_are_counted;
 use script_form::write_command;
 use store_form::Store;
-use t0_link::{Link, is_passed};
+use t0_link::{Link, LinkFault, is_passed};
 use uicc_types::Answer;
 
 // Sets the plan that waits, where an APDU is passed, and answers whether the device was given one.
@@ -36,7 +35,7 @@ fn deliver<S: Store, B: Applet>(
     end: &mut CardEnd<S, B>,
     tpdu: &[u8],
     answer: &mut Answer,
-) -> Reply
+) -> Result<(), LinkFault>
     ensures delivers { (old : CardView) → IsSeenBy old (machine_of end.old.parts) end.old.parts.is_on
         → Delivers old (link_answer link.old.kept tpdu.now) (seen result answer.new) link.new.kept end.old end.new }
     ensures stays { (IsPassed (link_answer link.old.kept tpdu.now) → ⊥) → end.new ≡ end.old }
@@ -47,7 +46,7 @@ fn deliver<S: Store, B: Applet>(
     let is_set = prepare(end, tpdu);
     let outcome = link.exchange(end, tpdu, answer);
     end.clear_plan(is_set);
-    reply_of(outcome)
+    outcome
 }
 
 /// Takes a TPDU, and writes what it comes to: its own line, and the link's answer, or that power was lost or was not there. Where the
@@ -70,10 +69,10 @@ pub fn take_tpdu<S: Store, B: Applet, W: Sink>(
 {
     match write_command(trace, tpdu) {
         Ok(()) => {
-            let reply = deliver(link, end, tpdu, answer);
-            match write_reply(trace, reply, answer) {
+            let outcome = deliver(link, end, tpdu, answer);
+            match write_reply(trace, outcome, answer) {
                 Ok(()) => Ok(()),
-                Err(_) => Err(Failed),
+                Err(Failed) => Err(Failed),
             }
         }
         Err(Failed) => Err(Failed),

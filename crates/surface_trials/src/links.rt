@@ -8,7 +8,7 @@ use byte_streams::{ListSink, Sink};
 use card_core::{CardOver, OpenFault};
 use eeprom_model::BenchEeprom;
 use layout_section::{Section, format};
-use phone_runs::{PhoneMove, Places, play_on_phone, start_phone};
+use phone_runs::{Places, hear_line, start_phone};
 use run_steps::{CardEnd, Carrier};
 use script_form::{HandsetLine, Note};
 use std::alloc::Global;
@@ -174,20 +174,20 @@ fn polled<S: Store + Drop, B: Applet, W: Sink>(
         .ok()?;
     let length = answer.status.0.checked_sub(0x6100)?;
     let get_response = [0x00, 0xC0, 0x00, 0x00, (length % 256) as u8];
-    let poll = PhoneMove::Hears(HandsetLine::NetPoll);
+    let poll = HandsetLine::NetPoll;
     if is_linked {
         let mut carrier = Carrier::Link(link);
-        play_on_phone(card, &mut carrier, &mut phone, poll, &mut places, trace).ok()?;
+        hear_line(card, &mut carrier, &mut phone, &poll, &mut places, trace).ok()?;
         match carrier {
             Carrier::Link(behind) => link = behind,
             Carrier::Direct => return None,
         }
     } else {
-        play_on_phone(
+        hear_line(
             card,
             &mut Carrier::Direct,
             &mut phone,
-            poll,
+            &poll,
             &mut places,
             trace,
         )

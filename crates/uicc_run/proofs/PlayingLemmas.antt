@@ -26,7 +26,7 @@ use Rattle.card_model.specs.Laws.{CountsJoin, PlansAreSetInOrder}
 use Rattle.card_model.specs.Runs.{plan_given, armed_after, waiting_after}
 use Rattle.card_model.specs.States.{Machine}
 use Rattle.run_steps.proofs.GoesOnLemmas.{text_of-append}
-use Rattle.run_steps.proofs.SteppingLemmas.{no_last_command, no_last_plan, told_more}
+use Rattle.run_steps.proofs.SteppingLemmas.{told_more}
 use Rattle.run_steps.proofs.ViewLemmas.{rests_then, run_failed, run_shown}
 use Rattle.run_steps.specs.Runs.{text_of}
 use Rattle.run_steps.specs.Taking.{BreaksStep, EndsStep, Rests, RestsOn, TakesStep}
@@ -258,14 +258,10 @@ module _ (given : Given) (first : CardView) (script next : ScriptReader) (left l
         counted = join given.meter from.meter to.meter (plan_given done.account.steps) broken.set done.account.own broken.own playing.counted broken.counted;
       }
 
-  -- a step was the last, which only a reset can be
-  pub fails_in : (kept : Option Answer) (from to : Moment) (last : Step) → CountsJoin → PlansAreSetInOrder → deeds_of line ≡ Takes last ∷ []
-      → ((old : CardView) → IsSeen old from → EndsStep old last from to) → IsPlaying given first script left kept from → FailsSo given first (left_at to)
-  fails_in kept from to (step.Apdu apdu) join order one fails playing =
-      let failed = fails playing.done.card playing.seen in absurd (no_last_command playing.done.card failed.card apdu failed.shown failed.ends)
-  fails_in kept from to (step.Plan plan) join order one fails playing =
-      let failed = fails playing.done.card playing.seen in absurd (no_last_plan playing.done.card failed.card plan failed.shown failed.ends)
-  fails_in kept from to step.Reset join order one fails playing =
+  -- a reset was the last step
+  pub fails_in : (kept : Option Answer) (from to : Moment) → CountsJoin → PlansAreSetInOrder → deeds_of line ≡ Takes step.Reset ∷ []
+      → ((old : CardView) → IsSeen old from → EndsStep old step.Reset from to) → IsPlaying given first script left kept from → FailsSo given first (left_at to)
+  fails_in kept from to join order one fails playing =
       let done = playing.done in
       let failed = fails done.card playing.seen in
       record {

@@ -4,6 +4,7 @@ use Rattle.std.specs.Io.KnownBytes.{append_known}
 use Rattle.uicc_types.specs.declared.answers.Answer.{Answer}
 use Rattle.uicc_types.specs.declared.byte_lists.TheConstants.{LONGEST_COMMAND}
 use Rattle.uicc_types.specs.declared.plans.TheConstants.Plan.{NONE}
+use Rattle.uicc_types.specs.declared.runs.Step.TheVariants as step
 use Rattle.byte_streams.specs.Lines.{LineList}
 use Rattle.script_form.specs.declared.lines.ScriptLine.{ScriptLine}
 use Rattle.script_reader.specs.Reading.{Follows}
@@ -14,7 +15,6 @@ use Rattle.card_model.specs.Counts.{IsCounted}
 use Rattle.card_model.specs.Runs.{plan_given, waiting_after}
 use Rattle.command_line.specs.declared.requests.Transport.{Transport}
 use Rattle.command_line.specs.declared.requests.Transport.TheVariants as transport
-use Rattle.run_steps.specs.Moves.{IsShort, step_of}
 use Rattle.run_steps.specs.Runs.{text_of}
 use Rattle.run_steps.specs.Stepping.{Moment, IsSeen}
 use Rattle.run_steps.specs.Taking.{Rests}
@@ -22,7 +22,7 @@ use Rattle.run_steps.specs.Views.{CardView}
 use Rattle.run_steps.specs.declared.carriers.Carrier.{Carrier}
 use Rattle.run_steps.specs.declared.carriers.Carrier.TheVariants as carrier
 use Rattle.phone_runs.specs.Playing.{Begins}
-use Rattle.uicc_run.specs.Accounts.{Takes, Transfers}
+use Rattle.uicc_run.specs.Accounts.{Deed, Takes, Transfers}
 use Rattle.uicc_run.specs.Playing.{AreReadInPlace, Given, IsFirst, CarriedOut, left_at, CardComesTo, beginning}
 use Rattle.uicc_run.specs.Steps.{may_follow, deeds_of}
 use Rattle.uicc_run.specs.declared.effects.Effect.{Effect}
@@ -55,11 +55,17 @@ abbrev pub GivesPlayed : Given → CardView → ScriptReader → Option (List �
 GivesPlayed given first script left kept now (Ok done) = IsPlaying given first script left kept now
 GivesPlayed given first script left kept now (Err end) = CardComesTo given first left end (left_at now)
 
+-- a line that may stand after `start` is for this
+abbrev pub IsFor : ScriptLine → Deed → Type 0
+IsFor line deed = (may_follow line ≡ true) × (deeds_of line ≡ deed ∷ [])
+
 -- what a line after `start` is for the card
 abbrev pub IsEffect : ScriptLine → Effect → Type 0
 IsEffect line effect.Nothing = (may_follow line ≡ true) × (deeds_of line ≡ [])
-IsEffect line (effect.Takes move) = (may_follow line ≡ true) × (deeds_of line ≡ Takes (step_of move) ∷ []) × IsShort move
-IsEffect line (effect.Transfers tpdu) = (may_follow line ≡ true) × (deeds_of line ≡ Transfers tpdu.now ∷ []) × (length tpdu.now ≤ LONGEST_COMMAND)
+IsEffect line (effect.Sends apdu) = IsFor line (Takes (step.Apdu apdu.now)) × (length apdu.now ≤ LONGEST_COMMAND)
+IsEffect line (effect.Transfers tpdu) = IsFor line (Transfers tpdu.now) × (length tpdu.now ≤ LONGEST_COMMAND)
+IsEffect line effect.Resets = IsFor line (Takes step.Reset)
+IsEffect line (effect.Plans plan) = IsFor line (Takes (step.Plan plan))
 IsEffect line effect.OutOfPlace = may_follow line ≡ false
 
 -- its commands come to the card as they are, or over a link that keeps nothing yet and was given no TPDU

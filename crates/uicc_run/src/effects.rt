@@ -1,7 +1,6 @@
 //! What a line after `start` does.
 ghost use Rattle.uicc_run.specs.BetweenLines.{IsEffect};
 
-use run_steps::Move;
 use script_form::ScriptLine;
 use uicc_types::Plan;
 
@@ -10,10 +9,14 @@ use uicc_types::Plan;
 pub enum Effect<'a> {
     /// It does nothing.
     Nothing,
-    /// It does this.
-    Takes(Move<'a>),
+    /// It sends the card this command.
+    Sends(&'a [u8]),
     /// It gives the link this TPDU.
     Transfers(&'a [u8]),
+    /// It resets the card.
+    Resets,
+    /// It plans faults for the next command or reset.
+    Plans(Plan),
     /// It may not stand there.
     OutOfPlace,
 }
@@ -24,21 +27,21 @@ pub fn effect_of(line: &ScriptLine) -> Effect<'_>
 {
     match line {
         ScriptLine::Passed => Effect::Nothing,
-        ScriptLine::Apdu(apdu) => Effect::Takes(Move::Send(apdu.as_slice())),
+        ScriptLine::Apdu(apdu) => Effect::Sends(apdu.as_slice()),
         ScriptLine::Tpdu(tpdu) => Effect::Transfers(tpdu.as_slice()),
-        ScriptLine::Reset => Effect::Takes(Move::Reset),
-        ScriptLine::Cut(cut) => Effect::Takes(Move::Plans(Plan {
+        ScriptLine::Reset => Effect::Resets,
+        ScriptLine::Cut(cut) => Effect::Plans(Plan {
             cut: Some(*cut),
             ..Plan::NONE
-        })),
-        ScriptLine::Fail(fail) => Effect::Takes(Move::Plans(Plan {
+        }),
+        ScriptLine::Fail(fail) => Effect::Plans(Plan {
             fail: Some(*fail),
             ..Plan::NONE
-        })),
-        ScriptLine::ReadFail(call) => Effect::Takes(Move::Plans(Plan {
+        }),
+        ScriptLine::ReadFail(call) => Effect::Plans(Plan {
             read_fail: Some(*call),
             ..Plan::NONE
-        })),
+        }),
         ScriptLine::Start
         | ScriptLine::Df { .. }
         | ScriptLine::Transparent { .. }

@@ -5,14 +5,12 @@ ghost use Rattle.byte_streams.specs.Reading.{IsWithin};
 ghost use Rattle.script_form.specs.declared.lines.ScriptLine.{ScriptLine as AnyLine};
 ghost use Rattle.script_reader.specs.Reading.{reading, room_of};
 ghost use Rattle.run_steps.specs.Ends.{moment_at};
-ghost use Rattle.run_steps.specs.Moves.{step_of};
 ghost use Rattle.run_steps.specs.Tallies.{tally};
 ghost use Rattle.run_steps.specs.Views.{CardView};
 ghost use Rattle.phone_runs.specs.LineTallies.{TalliesLines};
 ghost use Rattle.phone_runs.specs.BetweenLines.{IsBetweenLines, IsServing};
 ghost use Rattle.phone_runs.specs.Lines.{PhoneComesTo};
 ghost use Rattle.phone_runs.specs.Runs.{Beginning};
-ghost use Rattle.uicc_run.specs.Accounts.{kept_behind};
 ghost use Rattle.uicc_run.specs.Opening.{is_handset};
 ghost use Rattle.uicc_run.specs.Playing.{CardComesTo, Given, left_at};
 ghost use Rattle.uicc_run.specs.BetweenLines.{GivesPlayed, IsPlaying};
@@ -23,7 +21,7 @@ use applet_trait::Applet;
 use byte_streams::{Failed, Sink, Source};
 use card_model::{plans_are_set_in_order, runs_are_counted};
 use phone_runs::{Places, serve_line};
-use run_steps::{CardEnd, Carrier, Move, StepEnd, take_step, take_tpdu};
+use run_steps::{CardEnd, Carrier, StepEnd, exchange, restart, take_tpdu};
 use script_form::ScriptLine;
 use script_reader::{PlayEnd, ScriptReader, read_behind};
 use store_form::Store;
@@ -118,28 +116,29 @@ fn play_line<S: Store, B: Applet, R: Source, W: Sink>(
         Ok(()) => match effect_of(line) {
             Effect::Nothing => Ok(()),
             Effect::OutOfPlace => Err(PlayEnd::BadLine(script.number())),
-            Effect::Takes(step) => {
-                drop_kept(link, step);
-                match take_step(card, carrier, step, answer, trace) {
-                    Ok(()) => Ok(()),
-                    Err(StepEnd::SinkFailed) => Err(PlayEnd::SinkFailed),
-                    Err(StepEnd::ResetFailed) => Err(PlayEnd::ResetFailed),
+            Effect::Sends(apdu) => {
+                link.clear();
+                match exchange(card, carrier, apdu, answer, trace) {
+                    Ok(_) => Ok(()),
+                    Err(Failed) => Err(PlayEnd::SinkFailed),
                 }
             }
             Effect::Transfers(tpdu) => match take_tpdu(link, card, tpdu, answer, trace) {
                 Ok(()) => Ok(()),
                 Err(Failed) => Err(PlayEnd::SinkFailed),
             },
+            Effect::Resets => {
+                link.clear();
+                match restart(card, trace) {
+                    Ok(_) => Ok(()),
+                    Err(StepEnd::SinkFailed) => Err(PlayEnd::SinkFailed),
+                    Err(StepEnd::ResetFailed) => Err(PlayEnd::ResetFailed),
+                }
+            }
+            Effect::Plans(plan) => {
+                card.plan(plan);
+                Ok(())
+            }
         },
-    }
-}
-
-/// Drops what the link keeps, where a step goes past it to the card.
-fn drop_kept(link: &mut Link, step: Move<'_>)
-    ensures { link.new.kept ≡ kept_behind (step_of step.entry) link.old.kept }
-{
-    match step {
-        Move::Send(_) | Move::Reset => link.clear(),
-        Move::Plans(_) => {}
     }
 }

@@ -19,17 +19,17 @@ returns-in-Nothing-clause-same g c = λ same. none_same c.args.phone.now c.next_
 
 pub returns-in-Ok-clause-further : goal.returns-in-Ok-clause-further
 returns-in-Ok-clause-further g c = λ given log at.
-    sent_further c.runs_are_counted.ensures.join c.plans_are_set_in_order.ensures c.args.phone.now c.next_into.new.self c.hear.new.phone _ c.as_slice-apdu.result.now c.in-Ok.reply c.exchange.new.answer given log _ _
+    sent_further c.runs_are_counted.ensures.join c.plans_are_set_in_order.ensures c.args.phone.now c.next_into.new.self c.hear.new.phone _ c.as_slice-apdu.result.now c.in-Ok.outcome c.exchange.new.answer given log _ _
     (record { item = c.next_into.ensures.item; after = c.next_into.ensures.after }) (asks_send c.next_into.result c.next_into.new.apdu c.as_slice-apdu.result.now c.next_into.new.note c.in-Send.is c.as_slice-apdu.ensures.value) c.hear.ensures c.in-Ok.ensures.gives at
 
 pub returns-in-Ok-clause-more : goal.returns-in-Ok-clause-more
 returns-in-Ok-clause-more g c = λ same.
-    sent_more c.lines_end.ensures c.args.phone.now c.next_into.new.self c.hear.new.phone _ c.as_slice-apdu.result.now c.in-Ok.reply c.exchange.new.answer
+    sent_more c.lines_end.ensures c.args.phone.now c.next_into.new.self c.hear.new.phone _ c.as_slice-apdu.result.now c.in-Ok.outcome c.exchange.new.answer
     (record { item = c.next_into.ensures.item; after = c.next_into.ensures.after }) (asks_send c.next_into.result c.next_into.new.apdu c.as_slice-apdu.result.now c.next_into.new.note c.in-Send.is c.as_slice-apdu.ensures.value) c.hear.ensures c.requires.served
 
 pub returns-in-Err-clause-further : goal.returns-in-Err-clause-further
 returns-in-Err-clause-further g c = λ given log at.
-    sent_ends c.runs_are_counted.ensures.join c.args.phone.now c.next_into.new.self _ c.as_slice-apdu.result.now c.in-Err.end given log _ _
+    sent_ends c.runs_are_counted.ensures.join c.args.phone.now c.next_into.new.self _ c.as_slice-apdu.result.now given log _ _
     (record { item = c.next_into.ensures.item; after = c.next_into.ensures.after }) (asks_send c.next_into.result c.next_into.new.apdu c.as_slice-apdu.result.now c.next_into.new.note c.in-Send.is c.as_slice-apdu.ensures.value) c.in-Err.ensures.gives at
 
 pub returns-in-Ok-restart-clause-further : goal.returns-in-Ok-restart-clause-further
@@ -74,7 +74,7 @@ returns-in-Nothing-clause-carried g c =
 
 pub returns-in-Ok-clause-carried : goal.returns-in-Ok-clause-carried
 returns-in-Ok-clause-carried g c =
-    sent_carried c.args.phone.now c.next_into.new.self c.hear.new.phone _ c.as_slice-apdu.result.now c.in-Ok.reply c.exchange.new.answer c.args.carrier.now c.exchange.new.carrier
+    sent_carried c.args.phone.now c.next_into.new.self c.hear.new.phone _ c.as_slice-apdu.result.now c.in-Ok.outcome c.exchange.new.answer c.args.carrier.now c.exchange.new.carrier
     (record { item = c.next_into.ensures.item; after = c.next_into.ensures.after }) (asks_send c.next_into.result c.next_into.new.apdu c.as_slice-apdu.result.now c.next_into.new.note c.in-Send.is c.as_slice-apdu.ensures.value) c.hear.ensures c.requires.served c.in-Ok.ensures.carries
 
 pub returns-in-Ok-restart-clause-carried : goal.returns-in-Ok-restart-clause-carried

@@ -19,7 +19,7 @@ pub returns-in-Err-clause-gives : goal.returns-in-Err-clause-gives
 returns-in-Err-clause-gives g c = λ old is.
     broken_at old c.args.end.now c.set_plan-is_set.new.self c.reset-outcome.new.self c.clear_plan.new.self _ _ c.runs_are_counted.ensures.plans
     (with_plan c.args.end.now c.set_plan-is_set.new.self c.reset-outcome.new.self c.clear_plan.new.self c.set_plan-is_set.result c.set_plan-is_set.ensures.set c.set_plan-is_set.ensures.is_set c.reset-outcome.ensures.waits c.clear_plan.ensures) is
-    c.reset-outcome.result c.reset_line.result c.reset_line.ensures c.reset-outcome.ensures.takes c.in-Err.why c.in-Err.ensures.sink c.in-Err.ensures.err
+    c.reset-outcome.result c.reset_line.result c.reset_line.ensures c.reset-outcome.ensures.takes c.in-Err.ensures.err
 
 pub returns-in-Ok-outcome-clause-tallies : goal.returns-in-Ok-outcome-clause-tallies
 returns-in-Ok-outcome-clause-tallies g c = record {

@@ -7,13 +7,13 @@ use Rattle.run_steps.proofs.tpdus.take_tpdu.Goals as goal
 
 pub returns-in-Ok-write_reply-clause-gives : goal.returns-in-Ok-write_reply-clause-gives
 returns-in-Ok-write_reply-clause-gives g c = λ old is.
-    takes c.args.tpdu.now old (link_answer c.args.link.now.kept c.args.tpdu.now) c.args.link.now.kept c.deliver-reply.new.link.kept c.args.end.now c.deliver-reply.new.end _ _ _ _
-    (c.deliver-reply.ensures.delivers old is) c.in-Ok.ensures.ok c.in-Ok-write_reply.ensures.ok
+    takes c.args.tpdu.now old (link_answer c.args.link.now.kept c.args.tpdu.now) c.args.link.now.kept c.deliver-outcome.new.link.kept c.args.end.now c.deliver-outcome.new.end _ _ _ _
+    (c.deliver-outcome.ensures.delivers old is) c.in-Ok.ensures.ok c.in-Ok-write_reply.ensures.ok
 
 pub returns-in-Err-write_reply-clause-gives : goal.returns-in-Err-write_reply-clause-gives
 returns-in-Err-write_reply-clause-gives g c = λ old is.
-    breaks_reply c.args.tpdu.now old (link_answer c.args.link.now.kept c.args.tpdu.now) c.args.link.now.kept c.deliver-reply.new.link.kept c.args.end.now c.deliver-reply.new.end _ _ _ _
-    (c.deliver-reply.ensures.delivers old is) c.in-Ok.ensures.ok c.in-Err-write_reply.ensures.err
+    breaks_reply c.args.tpdu.now old (link_answer c.args.link.now.kept c.args.tpdu.now) c.args.link.now.kept c.deliver-outcome.new.link.kept c.args.end.now c.deliver-outcome.new.end _ _ _ _
+    (c.deliver-outcome.ensures.delivers old is) c.in-Ok.ensures.ok c.in-Err-write_reply.ensures.err
 
 pub returns-in-Err-clause-gives : goal.returns-in-Err-clause-gives
 returns-in-Err-clause-gives g c = λ old is.
