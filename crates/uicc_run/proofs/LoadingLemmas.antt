@@ -41,7 +41,7 @@ use Rattle.long_runs.specs.declared.counts.Counts.{Counts}
 use Rattle.run_steps.specs.Views.{CardView, ItsPower, TheCard}
 use Rattle.phone_runs.specs.LoadingLines.{GivesLoad}
 use Rattle.phone_runs.specs.LoadRuns.{all_heard}
-use Rattle.run_steps.specs.declared.steps.MemoryFailed.{MemoryFailed}
+use Rattle.run_steps.specs.declared.steps.MemoryFailed.{MemoryFailed as Failure}
 use Rattle.phone_runs.specs.Laws.{RunsAreLegal, RunsAreOfTheCard}
 use Rattle.phone_runs.specs.Logs.{heard, trace}
 use Rattle.phone_runs.specs.Playing.{Begins}
@@ -53,7 +53,8 @@ use Rattle.uicc_run.specs.Loading.{ComesToLoad, FailsToOpenFixed, IsFixedCard, I
 use Rattle.uicc_run.specs.Making.{ending_for_load, ending_for as ending_for_fault}
 use Rattle.uicc_run.specs.Playing.{Given, Leaves, first_machine}
 use Rattle.uicc_run.specs.declared.endings.Ending.{Ending}
-use Rattle.uicc_run.specs.declared.endings.Ending.TheVariants.{Usage, NoMemory, Section, FormatFailed, EepromFailed, NotACard, NoApplet, Played, Counted, LoadFailed}
+use Rattle.uicc_run.specs.declared.endings.Ending.TheVariants.{Usage, NoMemory, Section, MemoryFailed, NoCard, Played, Counted}
+use Rattle.uicc_run.specs.declared.endings.Task.TheVariants as task
 
 -- the handset of a long run begins with the card that was opened
 load_begins : (given : Given) (card : Persistent) (mark : ℕ) (told : Option (List ℕ)) (meter : Meter) (boxes : List (Option AppletState)) (parts : CardParts) → CountsJoin
@@ -108,7 +109,7 @@ heard_made [] = refl
 heard_made (line ∷ made) = ap (λ l. line ∷ l) (heard_made made)
 
 -- what the handset came to is what the run comes to
-pub comes_to_load : (given : Given) (first : CardView) (start count : ℕ) (card : Persistent) (leaves : Leaves) (at : Moment) (outcome : Result Counts MemoryFailed) → RunsAreLegal → RunsAreOfTheCard → IsFixedCard given.boxes card → IsFixedFirst given card first
+pub comes_to_load : (given : Given) (first : CardView) (start count : ℕ) (card : Persistent) (leaves : Leaves) (at : Moment) (outcome : Result Counts Failure) → RunsAreLegal → RunsAreOfTheCard → IsFixedCard given.boxes card → IsFixedFirst given card first
     → IsLeft leaves at → GivesLoad (made_lines start count) (load_beginning given first) at outcome → ComesToLoad given (is_known first) start count (ending_for_load count outcome) leaves
 comes_to_load given first start count card leaves at (Ok counts) legal of_card fixed opens left gives = (
   first,
@@ -129,7 +130,7 @@ comes_to_load given first start count card leaves at (Err failed) legal of_card 
     (first, refl, record { card = card; at = at; is_fixed = fixed; opened = opens; failed = gives; left = left })
 
 -- its card was handed back
-pub load_closes : (given : Given) (is_told : Bool) (first : CardView) (start count : ℕ) (card : Persistent) (taken : Option (List ℕ)) (parts : CardParts) (mark : ℕ) (told : Option (List ℕ)) (meter : Meter) (boxes : List (Option AppletState)) (put : Option (List ℕ)) (waiting : Plan) (outcome : Result Counts MemoryFailed)
+pub load_closes : (given : Given) (is_told : Bool) (first : CardView) (start count : ℕ) (card : Persistent) (taken : Option (List ℕ)) (parts : CardParts) (mark : ℕ) (told : Option (List ℕ)) (meter : Meter) (boxes : List (Option AppletState)) (put : Option (List ℕ)) (waiting : Plan) (outcome : Result Counts Failure)
     → RunsAreLegal → RunsAreOfTheCard → is_known first ≡ is_told → IsFixedCard given.boxes card → IsFixedFirst given card first → mark ≡ parts.store_mark → told ≡ parts.told → meter ≡ parts.meter → boxes ≡ parts.boxes
     → GivesLoad (made_lines start count) (load_beginning given first) (moment parts put waiting) outcome
     → ComesToLoad given is_told start count (ending_for_load count outcome) (record { held = standing mark told; taken = taken; meter = meter; boxes = boxes })
@@ -215,9 +216,9 @@ pub memory_keeps : (why : OpenFault) (mark : ℕ) (told told_then : Option (List
 memory_keeps why mark told told_then ending is wants leaves =
     refusal_keeps why mark told told_then leaves (subst (λ e. KeepsBytes e (standing mark told)) (sym (sym is ∙ wants)) tt)
 
-pub never_wanting : (lines : ℕ) (outcome : Result Counts MemoryFailed) (ending : Ending) → ending ≡ ending_for_load lines outcome → ending ≡ NoMemory → ⊥
+pub never_wanting : (lines : ℕ) (outcome : Result Counts Failure) (ending : Ending) → ending ≡ ending_for_load lines outcome → ending ≡ NoMemory → ⊥
 never_wanting lines (Ok counts) ending is wants = let apart : Counted lines counts ≡ NoMemory = sym is ∙ wants in cc
-never_wanting lines (Err failed) ending is wants = let apart : LoadFailed ≡ NoMemory = sym is ∙ wants in cc
+never_wanting lines (Err failed) ending is wants = let apart : MemoryFailed task.Counting ≡ NoMemory = sym is ∙ wants in cc
 
 -- what an opening in which the memory didn't fail leaves of the counts, from where a run began
 pub counted_on : (given : Given) (old new : Meter) (why : OpenFault) → CountsJoin → IsCounted given.meter old [] [] → Caused old new (why ≡ fault.Failed) (why ≡ fault.PowerLost) → (why ≡ fault.Failed → ⊥) → (why ≡ fault.PowerLost → ⊥) → IsCounted given.meter new [] []
@@ -244,13 +245,10 @@ pub load_completes : (given : Given) (told : Bool) (start count : ℕ) (card : P
 load_completes given told start count card ending leaves status fixed comes (inr four) no_4 no_6 = absurd (no_4 four)
 load_completes given told start count card NoMemory leaves status fixed comes (inl is) no_4 no_6 = inr (inl is)
 load_completes given told start count card (Counted lines counts) leaves status fixed comes (inl is) no_4 no_6 = inl is
-load_completes given told start count card FormatFailed leaves status fixed comes (inl is) no_4 no_6 = absurd (no_6 is)
-load_completes given told start count card EepromFailed leaves status fixed comes (inl is) no_4 no_6 = absurd (no_6 is)
-load_completes given told start count card LoadFailed leaves status fixed comes (inl is) no_4 no_6 = absurd (no_6 is)
+load_completes given told start count card (MemoryFailed when) leaves status fixed comes (inl is) no_4 no_6 = absurd (no_6 is)
 load_completes given told start count card (Section (script.BadLine number)) leaves status fixed comes (inl is) no_4 no_6 = absurd (never_refused given.boxes bare_card comes.0 card number fixed comes.1)
 load_completes given told start count card (Section (script.NoRoom number)) leaves status fixed comes (inl is) no_4 no_6 = absurd comes
 load_completes given told start count card (Section script.ReadFailed) leaves status fixed comes (inl is) no_4 no_6 = absurd comes
 load_completes given told start count card Usage leaves status fixed comes (inl is) no_4 no_6 = absurd comes
-load_completes given told start count card (NotACard at) leaves status fixed comes (inl is) no_4 no_6 = inr (inr (is, comes.untold))
-load_completes given told start count card (NoApplet shelf) leaves status fixed comes (inl is) no_4 no_6 = inr (inr (is, comes.untold))
+load_completes given told start count card (NoCard why) leaves status fixed comes (inl is) no_4 no_6 = inr (inr (is, comes.untold))
 load_completes given told start count card (Played end) leaves status fixed comes (inl is) no_4 no_6 = absurd comes

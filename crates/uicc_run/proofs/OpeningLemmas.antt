@@ -42,7 +42,8 @@ use Rattle.uicc_run.specs.BetweenLines.{IsStarted}
 use Rattle.uicc_run.specs.Scripts.{ReachesStart}
 use Rattle.uicc_run.specs.Steps.{may_stand}
 use Rattle.uicc_run.specs.declared.endings.Ending.{Ending}
-use Rattle.uicc_run.specs.declared.endings.Ending.TheVariants.{EepromFailed, FormatFailed, NoMemory}
+use Rattle.uicc_run.specs.declared.endings.Ending.TheVariants.{MemoryFailed, NoMemory}
+use Rattle.uicc_run.specs.declared.endings.Task.TheVariants as task
 
 -- ---- counts
 
@@ -359,7 +360,7 @@ module _ (given : Given) (is_told : Bool) (script : ScriptReader) (left taken : 
       }
 
 -- a fault of a memory that holds no card leaves the bytes as they were
-fault_keeps : (mark : ℕ) (told told_then : Option (List ℕ)) (held : Option Persistent) → standing mark told ≡ held → IsLeftMigrated mark told told_then → KeepsBytes EepromFailed held → told_then ≡ told
+fault_keeps : (mark : ℕ) (told told_then : Option (List ℕ)) (held : Option Persistent) → standing mark told ≡ held → IsLeftMigrated mark told told_then → KeepsBytes (MemoryFailed task.Opening) held → told_then ≡ told
 fault_keeps mark told told_then None stands leaves is = leaves.no_card stands
 fault_keeps mark told told_then (Some card) stands leaves is = absurd is
 
@@ -447,7 +448,7 @@ described_some cast (Some bare) section card described some = some_of card (some
 described_some cast None section card described some = absurd (cc)
 
 -- a card that can't be opened was formatted before, if one was to be
-pub formatted_then : (why : OpenFault) → ending_for why ≡ FormatFailed → ⊥
+pub formatted_then : (why : OpenFault) → ending_for why ≡ MemoryFailed task.Formatting → ⊥
 formatted_then (fault.NotACard at) is = cc
 formatted_then other is = cc
 

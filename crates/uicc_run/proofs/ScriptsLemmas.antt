@@ -28,16 +28,19 @@ use Rattle.run_steps.specs.Views.{CardView, ItsPower, TheCard}
 use Rattle.phone_runs.specs.Lines.{PhoneEnds}
 use Rattle.bip_runs.proofs.IsLineLemmas.{Only, only_first, only_last, only_says, says_itself}
 use Rattle.uicc_run.specs.Making.{IsUnshown}
-use Rattle.uicc_run.specs.Endings.{IsEarly, status_for}
+use Rattle.uicc_run.specs.Endings.{IsEarly, refusal_line, status_for}
 use Rattle.uicc_run.specs.Headline.{Closes, Comes, IsNoCard, IsNotOpened, LacksBox, is_known, last_text}
 use Rattle.uicc_run.specs.Playing.{AreReadInPlace, EndsSo, Given, IsFirst, IsOpened, Leaves, first_machine, ComesTo, ServedComesTo, beginning}
 use Rattle.uicc_run.proofs.ReadingLemmas.{EndsBehind, HasStarted, has_started, reads_played, reads_served}
 use Rattle.uicc_run.proofs.TellsNextLemmas.{tells_it, tells_same}
 use Rattle.uicc_run.proofs.ServingLemmas.{opening}
 use Rattle.uicc_run.specs.Steps.{may_stand}
-use Rattle.uicc_run.specs.Scripts.{AreInPlace, CanOpen, CannotOpen, HoldsWholeCard, IsFirstBad, IsFirstTooMuch, IsGoodScript, MeetsBad, NoBoxOn, NoCardAt, ReachesStart, Refusal, RefusesAndTells, StopsAndTells, StopsAtStart, StopsBefore, StopsBehind, TellsNext, TellsWhy, refusal_line}
+use Rattle.uicc_run.specs.Scripts.{AreInPlace, CanOpen, CannotOpen, HoldsWholeCard, IsFirstBad, IsFirstTooMuch, IsGoodScript, MeetsBad, ReachesStart, RefusesAndTells, StopsAndTells, StopsAtStart, StopsBefore, StopsBehind, TellsNext, TellsWhy}
 use Rattle.uicc_run.specs.declared.endings.Ending.{Ending}
-use Rattle.uicc_run.specs.declared.endings.Ending.TheVariants.{Usage, NoMemory, Section, FormatFailed, EepromFailed, NotACard, NoApplet, Played, Counted, LoadFailed}
+use Rattle.uicc_run.specs.declared.endings.Ending.TheVariants.{Usage, NoMemory, Section, MemoryFailed, NoCard, Played, Counted}
+use Rattle.uicc_run.specs.declared.endings.Task.TheVariants as task
+use Rattle.uicc_run.specs.declared.endings.Refusal.{Refusal}
+use Rattle.uicc_run.specs.declared.endings.Refusal.TheVariants.{NotACard, NoApplet}
 use Rattle.uicc_run.proofs.HasBoxLemmas.{IsBoxed, have_boxes}
 use Rattle.uicc_run.proofs.HasKindsOfLemmas.{boxes_there}
 use Rattle.uicc_run.proofs.OpeningLemmas.{none_stays}
@@ -77,8 +80,8 @@ was_to_open given section start None is opened good = record {
 
 -- why it can't be opened
 cannot_open : (given : Given) (why : Refusal) → CannotOpen given why → HoldsWholeCard given → ⊥
-cannot_open given (NoCardAt at) cannot can = let holds = can.is in cc
-cannot_open given (NoBoxOn shelf) cannot can =
+cannot_open given (NotACard at) cannot can = let holds = can.is in cc
+cannot_open given (NoApplet shelf) cannot can =
     let boxes = subst (λ (s : Persistent). All (HasBox (with_all_shelves given.boxes)) s.rows) (one_start given.memory can.start cannot.start can.is cannot.is) can.boxes in
     cannot.first_missing.lacks (All-contains (HasBox (with_all_shelves given.boxes)) cannot.start.rows cannot.first_missing.row boxes cannot.first_missing.there)
 
@@ -98,12 +101,12 @@ one_place : (memory : Result Persistent ℕ) (at other : ℕ) → memory ≡ Err
 one_place memory at other is so = cc
 
 one_cause : (given : Given) (why other : Refusal) → CannotOpen given why → CannotOpen given other → why ≡ other
-one_cause given (NoCardAt at) (NoCardAt place) cannot could = ap NoCardAt (one_place given.memory at place cannot could)
-one_cause given (NoCardAt at) (NoBoxOn shelf) cannot could = let holds = could.is in absurd (cc)
-one_cause given (NoBoxOn shelf) (NoCardAt at) cannot could = let holds = cannot.is in absurd (cc)
-one_cause given (NoBoxOn shelf) (NoBoxOn other) cannot could =
+one_cause given (NotACard at) (NotACard place) cannot could = ap NotACard (one_place given.memory at place cannot could)
+one_cause given (NotACard at) (NoApplet shelf) cannot could = let holds = could.is in absurd (cc)
+one_cause given (NoApplet shelf) (NotACard at) cannot could = let holds = cannot.is in absurd (cc)
+one_cause given (NoApplet shelf) (NoApplet other) cannot could =
     let start = one_start given.memory cannot.start could.start cannot.is could.is in
-    ap NoBoxOn (one_shelf could.start.rows (with_all_shelves given.boxes) shelf other (subst (λ (s : Persistent). IsFirstWithoutBox s.rows (with_all_shelves given.boxes) shelf) start cannot.first_missing) could.first_missing)
+    ap NoApplet (one_shelf could.start.rows (with_all_shelves given.boxes) shelf other (subst (λ (s : Persistent). IsFirstWithoutBox s.rows (with_all_shelves given.boxes) shelf) start cannot.first_missing) could.first_missing)
 
 -- ---- where a run stops
 
@@ -245,10 +248,10 @@ describes_none : (IsKnown : List ScriptLine → Option Persistent → Type 0) (g
 describes_none IsKnown given known left leaves refused none =
     is_none refused.card (none_stays given.boxes refused.section refused.card (ap (λ f. with_lines given.boxes f refused.section) (sym none) ∙ refused.described))
 
-no_card_so : (given : Given) (known : Bool) (at : ℕ) (left taken : Option (List ℕ)) (leaves : Leaves) → IsNotOpened given known left leaves (λ section card. IsNoCard given at leaves) → taken ≡ append_known leaves.taken (last_text (NotACard at)) → known ≡ true → Refused given taken
+no_card_so : (given : Given) (known : Bool) (at : ℕ) (left taken : Option (List ℕ)) (leaves : Leaves) → IsNotOpened given known left leaves (λ section card. IsNoCard given at leaves) → taken ≡ append_known leaves.taken (last_text (NoCard (NotACard at))) → known ≡ true → Refused given taken
 no_card_so given known at left taken leaves refused told tells =
     let none = refused.known tells in
-    refused_so (λ section card. IsNoCard given at leaves) given known left taken leaves (NoCardAt at) refused (describes_none (λ section card. IsNoCard given at leaves) given known left leaves refused none.no_section) none.first_failed told
+    refused_so (λ section card. IsNoCard given at leaves) given known left taken leaves (NotACard at) refused (describes_none (λ section card. IsNoCard given at leaves) given known left leaves refused none.no_section) none.first_failed told
 
 -- a card that is described lacks no box
 lacks_none : (cast : List (Option AppletState)) (first : Option Persistent) (memory : Result Persistent ℕ) (section : List ScriptLine) (start : Persistent) (shelf : ℕ) → ((IfSome first (AreOfTheirBoxes cast) → ⊥) → ⊥)
@@ -258,12 +261,12 @@ lacks_none cast (Some bare) memory section start shelf boxed opened missing =
     absurd (boxed (λ all. missing.lacks (All-contains (HasBox (with_all_shelves cast)) start.rows missing.row (have_boxes cast start.rows (rows_have_boxes cast section bare start all opened)) missing.there)))
 
 no_box_so : (given : Given) (known : Bool) (shelf : ℕ) (left taken : Option (List ℕ)) (leaves : Leaves) → ((IsBoxed given → ⊥) → ⊥) → IsNotOpened given known left leaves (λ section card. LacksBox given shelf section leaves)
-    → taken ≡ append_known leaves.taken (last_text (NoApplet shelf)) → known ≡ true → Refused given taken
+    → taken ≡ append_known leaves.taken (last_text (NoCard (NoApplet shelf))) → known ≡ true → Refused given taken
 no_box_so given known shelf left taken leaves boxed refused told tells =
     let lacks = refused.known tells in
     let held = lacks.holds in
     let none = describes_none (λ section card. LacksBox given shelf section leaves) given known left leaves refused (lacks_none given.boxes given.first given.memory refused.section held.start shelf boxed held.opened lacks.first_missing) in
-    refused_so (λ section card. LacksBox given shelf section leaves) given known left taken leaves (NoBoxOn shelf) refused none (record {
+    refused_so (λ section card. LacksBox given shelf section leaves) given known left taken leaves (NoApplet shelf) refused none (record {
       start = held.start;
       is = memory_holds given.boxes given.first given.memory refused.section held.start (refused.described ∙ ap Ok none) held.opened;
       first_missing = lacks.first_missing;
@@ -321,17 +324,15 @@ verdict_of given known left taken NoMemory leaves status is told comes boxed use
 verdict_of given known left taken (Section (script.BadLine number)) leaves status is told comes boxed used three four six = inr (inr (inl (stopped_before given false status number leaves.taken taken left _ _ _ comes.0.read comes.0.described comes.0.cause inl is told, λ tells. tt)))
 verdict_of given known left taken (Section (script.NoRoom number)) leaves status is told comes boxed used three four six = inr (inr (inl (stopped_before given true status number leaves.taken taken left _ _ _ comes.0.read comes.0.described comes.0.cause (λ full. full) is told, λ tells. tt)))
 verdict_of given known left taken (Section script.ReadFailed) leaves status is told comes boxed used three four six = absurd (three refl)
-verdict_of given known left taken FormatFailed leaves status is told comes boxed used three four six = absurd (six refl)
-verdict_of given known left taken EepromFailed leaves status is told comes boxed used three four six = absurd (six refl)
-verdict_of given known left taken (NotACard at) leaves status is told comes boxed used three four six = inr (inr (inr (is, has_started _ given known left leaves comes, no_card_so given known at left taken leaves comes told)))
-verdict_of given known left taken (NoApplet shelf) leaves status is told comes boxed used three four six = inr (inr (inr (is, has_started _ given known left leaves comes, no_box_so given known shelf left taken leaves (boxed is) comes told)))
+verdict_of given known left taken (MemoryFailed when) leaves status is told comes boxed used three four six = absurd (six refl)
+verdict_of given known left taken (NoCard (NotACard at)) leaves status is told comes boxed used three four six = inr (inr (inr (is, has_started _ given known left leaves comes, no_card_so given known at left taken leaves comes told)))
+verdict_of given known left taken (NoCard (NoApplet shelf)) leaves status is told comes boxed used three four six = inr (inr (inr (is, has_started _ given known left leaves comes, no_box_so given known shelf left taken leaves (boxed is) comes told)))
 verdict_of given known left taken (Played play.Finished) leaves status is told comes boxed used three four six = finished_so given known status left taken (behind_end given known left leaves comes.0 comes.1 comes.2) is
 verdict_of given known left taken (Played (play.BadLine number)) leaves status is told comes boxed used three four six = stopped_so given known status number leaves.taken left taken (behind_bad given known left number leaves comes.0 comes.1 comes.2) is told
 verdict_of given known left taken (Played play.ReadFailed) leaves status is told comes boxed used three four six = absurd (three refl)
 verdict_of given known left taken (Played play.SinkFailed) leaves status is told comes boxed used three four six = absurd (four refl)
 verdict_of given known left taken (Played play.ResetFailed) leaves status is told comes boxed used three four six = absurd (six refl)
 verdict_of given known left taken (Counted lines counts) leaves status is told comes boxed used three four six = absurd comes
-verdict_of given known left taken LoadFailed leaves status is told comes boxed used three four six = absurd comes
 
 -- the run of a program, but for one with another status
 pub verdict : (given : Given) (known : Bool) (left taken : Option (List ℕ)) (ending : Ending) (leaves : Leaves) (status : ℕ) → Closes ending leaves.taken taken status → Comes given known left ending leaves
@@ -516,16 +517,14 @@ stops_bad given status left taken found (inr met) verdict =
 record ByStatus (ending : Ending) : Type 0 where
   one : status_for ending ≡ 1 → ending ≡ Usage
   five : status_for ending ≡ 5 → ending ≡ NoMemory
-  six : status_for ending ≡ 6 → (ending ≡ Played play.ResetFailed) ⊎ (IsUnshown ending × (last_text ending ≡ last_text EepromFailed))
+  six : status_for ending ≡ 6 → (ending ≡ Played play.ResetFailed) ⊎ (IsUnshown ending × (last_text ending ≡ last_text (MemoryFailed task.Opening)))
 
 by_status : (ending : Ending) → ByStatus ending
 by_status Usage = record { one = λ is. refl; five = λ is. absurd (cc is); six = λ is. absurd (cc is) }
 by_status NoMemory = record { one = λ is. absurd (cc is); five = λ is. refl; six = λ is. absurd (cc is) }
 by_status (Section (script.BadLine number)) = record { one = λ is. absurd (cc is); five = λ is. absurd (cc is); six = λ is. absurd (cc is) }
-by_status FormatFailed = record { one = λ is. absurd (cc is); five = λ is. absurd (cc is); six = λ is. inr (tt, refl) }
-by_status EepromFailed = record { one = λ is. absurd (cc is); five = λ is. absurd (cc is); six = λ is. inr (tt, refl) }
+by_status (MemoryFailed when) = record { one = λ is. absurd (cc is); five = λ is. absurd (cc is); six = λ is. inr (tt, refl) }
 by_status (Played play.ResetFailed) = record { one = λ is. absurd (cc is); five = λ is. absurd (cc is); six = λ is. inl refl }
-by_status LoadFailed = record { one = λ is. absurd (cc is); five = λ is. absurd (cc is); six = λ is. inr (tt, refl) }
 by_status other = record { one = λ is. absurd (cc is); five = λ is. absurd (cc is); six = λ is. absurd (cc is) }
 
 -- a status other than 4 is that of the end: a failing sink would make it 4
@@ -557,10 +556,10 @@ eight_is_early other is = absurd (cc is)
 
 -- a fault was counted in a reset, or nothing was shown but the last line
 pub six_shows : (ending : Ending) (start before taken : Option (List ℕ)) (status : ℕ) (HasFault : Type 0) → Closes ending before taken status → (ending ≡ Played play.ResetFailed → HasFault) → (IsUnshown ending → before ≡ start) → status ≡ 6
-    → HasFault ⊎ (taken ≡ append_known start (last_text EepromFailed))
+    → HasFault ⊎ (taken ≡ append_known start (last_text (MemoryFailed task.Opening)))
 six_shows ending start before taken status HasFault (inr broken) fault unshown six = let four = broken.0 in absurd (omega arith)
 six_shows ending start before taken status HasFault (inl whole) fault unshown six =
     elim ((by_status ending).six (sym whole.0 ∙ six)) [
       | inl reset ↦ inl (fault reset)
-      | inr alone ↦ inr (whole.1 ∙ ap (append_known before) alone.1 ∙ ap (λ b. append_known b (last_text EepromFailed)) (unshown alone.0))
+      | inr alone ↦ inr (whole.1 ∙ ap (append_known before) alone.1 ∙ ap (λ b. append_known b (last_text (MemoryFailed task.Opening))) (unshown alone.0))
     ]

@@ -11,7 +11,8 @@ use Rattle.uicc_run.specs.Scripts.{HoldsDescribed, IsHalfMade}
 use Rattle.uicc_run.specs.Stores.{IsSizeFor, content_in, held_in}
 use Rattle.uicc_run.specs.Worlds.{World, Seen}
 use Rattle.uicc_run.specs.declared.endings.Ending.{Ending}
-use Rattle.uicc_run.specs.declared.endings.Ending.TheVariants.{Usage, NoMemory, FormatFailed}
+use Rattle.uicc_run.specs.declared.endings.Ending.TheVariants.{Usage, NoMemory, MemoryFailed}
+use Rattle.uicc_run.specs.declared.endings.Task.TheVariants as task
 
 -- A run with these words can be made over a device of so many bytes, if they are those of a run, and there is a shelf for each box.
 pub record FitsRun {B : Type 0} (words : List (List ℕ)) (byte_count : ℕ) (cast : List B) : Type 0 where
@@ -26,7 +27,7 @@ pub record FitsRun {B : Type 0} (words : List (List ℕ)) (byte_count : ℕ) (ca
 -- the rest, it is as it was, or it holds just that card. Of the bytes of a memory that tells none, this says nothing.
 pub record KeepsContent (given : Given) (ending : Ending) (held : Option Persistent) (old new : Option (List ℕ)) (IsSame : Type 0) : Type 0 where
   pub bytes : given.first ≡ None → KeepsBytes ending held → new ≡ old
-  pub half_made : is_some given.first ≡ true → ending ≡ FormatFailed → IsHalfMade given old new
+  pub half_made : is_some given.first ≡ true → ending ≡ MemoryFailed task.Formatting → IsHalfMade given old new
   pub no_memory : is_some given.first ≡ true → ending ≡ NoMemory → IsSame ⊎ HoldsDescribed given new
 
 -- the same of the device of a store

@@ -8,7 +8,10 @@ use Rattle.script_reader.specs.declared.faults.ScriptFault.TheVariants as script
 use Rattle.card_state.specs.Persistent.{Persistent}
 use Rattle.long_runs.specs.declared.counts.Counts.{Counts}
 use Rattle.uicc_run.specs.declared.endings.Ending.{Ending}
-use Rattle.uicc_run.specs.declared.endings.Ending.TheVariants.{Usage, NoMemory, Section, FormatFailed, EepromFailed, NotACard, NoApplet, Played, Counted, LoadFailed}
+use Rattle.uicc_run.specs.declared.endings.Ending.TheVariants.{Usage, NoMemory, Section, MemoryFailed, NoCard, Played, Counted}
+use Rattle.uicc_run.specs.declared.endings.Task.TheVariants as task
+use Rattle.uicc_run.specs.declared.endings.Refusal.{Refusal}
+use Rattle.uicc_run.specs.declared.endings.Refusal.TheVariants.{NotACard, NoApplet}
 
 -- the status that the program ends with
 abbrev pub status_for : Ending → ℕ
@@ -20,18 +23,20 @@ status_for (Section script.ReadFailed) = 3
 status_for (Played play.ReadFailed) = 3
 status_for (Played play.SinkFailed) = 4
 status_for NoMemory = 5
-status_for FormatFailed = 6
-status_for EepromFailed = 6
+status_for (MemoryFailed when) = 6
 status_for (Played play.ResetFailed) = 6
-status_for (NotACard at) = 7
-status_for (NoApplet shelf) = 7
+status_for (NoCard why) = 7
 status_for (Section (script.NoRoom number)) = 8
 status_for (Counted lines counts) = 0
-status_for LoadFailed = 6
 
 -- the line of what is counted in a long run of so many lines
 abbrev pub line_of_counts : ℕ → Counts → TraceLine
 line_of_counts lines counts = line.Counts lines counts.commands counts.fetches counts.responses counts.envelopes counts.busy
+
+-- the line that says why a card can't be opened
+abbrev pub refusal_line : Refusal → TraceLine
+refusal_line (NotACard at) = line.NotACard at
+refusal_line (NoApplet shelf) = line.NoApplet shelf
 
 -- The line that the trace ends with, where there is one. A reset in which the memory fails has shown its line already.
 abbrev pub line_for : Ending → List TraceLine
@@ -43,14 +48,11 @@ line_for (Section script.ReadFailed) = line.ReadFailed ∷ []
 line_for (Played play.ReadFailed) = line.ReadFailed ∷ []
 line_for (Played play.SinkFailed) = []
 line_for NoMemory = line.NoMemory ∷ []
-line_for FormatFailed = line.EepromFailed ∷ []
-line_for EepromFailed = line.EepromFailed ∷ []
+line_for (MemoryFailed when) = line.EepromFailed ∷ []
 line_for (Played play.ResetFailed) = []
-line_for (NotACard at) = line.NotACard at ∷ []
-line_for (NoApplet shelf) = line.NoApplet shelf ∷ []
+line_for (NoCard why) = refusal_line why ∷ []
 line_for (Section (script.NoRoom number)) = line.Line number ∷ []
 line_for (Counted lines counts) = line_of_counts lines counts ∷ []
-line_for LoadFailed = line.EepromFailed ∷ []
 
 -- an end before anything was done to the card's memory
 abbrev pub IsEarly : Ending → Type 0
@@ -66,16 +68,15 @@ HasFailed old new = Rose old.faults new.faults ⊎ (Rose old.cuts new.cuts ⊎ (
 abbrev pub IsUnopened : Ending → Type 0
 IsUnopened (Played end) = ⊥
 IsUnopened (Counted lines counts) = ⊥
-IsUnopened LoadFailed = ⊥
+IsUnopened (MemoryFailed task.Counting) = ⊥
 IsUnopened ending = Unit {0}
 
 -- an end at which each byte of a memory that was to be opened is kept, which held this card or none: the card was not opened, though
 -- the memory didn't fail; or it failed, and held none
 abbrev pub KeepsBytes : Ending → Option Persistent → Type 0
 KeepsBytes NoMemory held = Unit {0}
-KeepsBytes EepromFailed None = Unit {0}
-KeepsBytes (NotACard at) held = Unit {0}
-KeepsBytes (NoApplet shelf) held = Unit {0}
+KeepsBytes (MemoryFailed task.Opening) None = Unit {0}
+KeepsBytes (NoCard why) held = Unit {0}
 KeepsBytes ending held = ⊥
 
 -- The device was told of no plan, so that the one before is in force still, and no count fell. Nothing is shown of a fault that was met: the

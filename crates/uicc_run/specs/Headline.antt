@@ -22,7 +22,10 @@ use Rattle.run_steps.specs.Views.{CardView, ItsPower, TheCard}
 use Rattle.uicc_run.specs.Endings.{line_for, status_for, IsUnplanned}
 use Rattle.uicc_run.specs.Playing.{ComesTo, Given, IsOpened, Leaves}
 use Rattle.uicc_run.specs.declared.endings.Ending.{Ending}
-use Rattle.uicc_run.specs.declared.endings.Ending.TheVariants.{Usage, NoMemory, Section, FormatFailed, EepromFailed, NotACard, NoApplet, Played}
+use Rattle.uicc_run.specs.declared.endings.Ending.TheVariants.{Usage, NoMemory, Section, MemoryFailed, NoCard, Played}
+use Rattle.uicc_run.specs.declared.endings.Task.TheVariants as task
+use Rattle.uicc_run.specs.declared.endings.Refusal.{Refusal}
+use Rattle.uicc_run.specs.declared.endings.Refusal.TheVariants.{NotACard, NoApplet}
 
 -- nothing was put into the sink, and the memory was given no plan
 pub record IsQuiet (given : Given) (leaves : Leaves) : Type 0 where
@@ -64,6 +67,11 @@ pub record LacksBox (given : Given) (shelf : ℕ) (section : List ScriptLine) (l
   pub first_missing : IsFirstWithoutBox holds.start.rows (with_all_shelves given.boxes) shelf
   pub counted : IsCounted given.meter leaves.meter [] []
 
+-- it is for this that the card was not opened
+abbrev pub IsRefused : Given → Refusal → List ScriptLine → Leaves → Type 0
+IsRefused given (NotACard at) section leaves = IsNoCard given at leaves
+IsRefused given (NoApplet shelf) section leaves = LacksBox given shelf section leaves
+
 -- what a memory stands for that stood for this, where it may have failed or lost power after the migration
 abbrev pub IsMigratedAtMost : Result Persistent ℕ → Option Persistent → Type 0
 IsMigratedAtMost (Ok state) held = (held ≡ Some state) ⊎ (held ≡ Some (migrated state))
@@ -96,10 +104,9 @@ abbrev pub Comes : Given → Bool → Option (List ℕ) → Ending → Leaves �
 Comes given told left Usage leaves = IsQuiet given leaves
 Comes given told left NoMemory leaves = HasNoMemory given told left leaves
 Comes given told left (Section fault) leaves = EndsInSection given.boxes given.first given.text left fault × IsQuiet given leaves
-Comes given told left FormatFailed leaves = IsNotOpened given told left leaves (λ section card. is_some card ≡ true)
-Comes given told left EepromFailed leaves = IsNotOpened given told left leaves (λ section card. FailsToOpen given card leaves.held)
-Comes given told left (NotACard at) leaves = IsNotOpened given told left leaves (λ section card. IsNoCard given at leaves)
-Comes given told left (NoApplet shelf) leaves = IsNotOpened given told left leaves (λ section card. LacksBox given shelf section leaves)
+Comes given told left (MemoryFailed task.Formatting) leaves = IsNotOpened given told left leaves (λ section card. is_some card ≡ true)
+Comes given told left (MemoryFailed task.Opening) leaves = IsNotOpened given told left leaves (λ section card. FailsToOpen given card leaves.held)
+Comes given told left (NoCard why) leaves = IsNotOpened given told left leaves (λ section card. IsRefused given why section leaves)
 Comes given told left (Played end) leaves = (first : CardView) × (is_known first ≡ told) × ComesTo given first left end leaves
 Comes given told left ending leaves = ⊥
 

@@ -28,7 +28,8 @@ use Rattle.uicc_run.specs.Playing.{Given, Leaves, first_machine}
 use Rattle.uicc_run.specs.Stores.{mark_of, memory_in}
 use Rattle.uicc_run.specs.Worlds.{World}
 use Rattle.uicc_run.specs.declared.endings.Ending.{Ending}
-use Rattle.uicc_run.specs.declared.endings.Ending.TheVariants.{NoMemory, Section, FormatFailed, EepromFailed, NotACard, NoApplet, Counted, LoadFailed}
+use Rattle.uicc_run.specs.declared.endings.Ending.TheVariants.{NoMemory, Section, MemoryFailed, NoCard, Counted}
+use Rattle.uicc_run.specs.declared.endings.Task.TheVariants as task
 
 -- what a long run is given, read off its memory, its device and the boxes; of what the memory holds where it tells its bytes
 pub record IsOver (given : Given) (told : Bool) (memory : Option (Result Persistent ℕ)) (meter : Meter) (boxes : List (Option AppletState)) : Type 0 where
@@ -114,12 +115,11 @@ pub record RefusesFixed (given : Given) (told : Bool) (leaves : Leaves) : Type 0
 abbrev pub ComesToLoad : Given → Bool → ℕ → ℕ → Ending → Leaves → Type 0
 ComesToLoad given told start count NoMemory leaves = IsCounted given.meter leaves.meter [] []
 ComesToLoad given told start count (Section (script.BadLine number)) leaves = (so_far : Persistent) × IsFirstRefused given.boxes bare_card so_far number
-ComesToLoad given told start count FormatFailed leaves = IsUnplanned given.meter leaves.meter
-ComesToLoad given told start count EepromFailed leaves = FailsToOpenFixed given told leaves
-ComesToLoad given told start count (NotACard at) leaves = RefusesFixed given told leaves
-ComesToLoad given told start count (NoApplet shelf) leaves = RefusesFixed given told leaves
+ComesToLoad given told start count (MemoryFailed task.Formatting) leaves = IsUnplanned given.meter leaves.meter
+ComesToLoad given told start count (MemoryFailed task.Opening) leaves = FailsToOpenFixed given told leaves
+ComesToLoad given told start count (NoCard why) leaves = RefusesFixed given told leaves
 ComesToLoad given told start count (Counted lines counts) leaves = (first : CardView) × (is_known first ≡ told) × Loads given first start count lines counts leaves
-ComesToLoad given told start count LoadFailed leaves = (first : CardView) × (is_known first ≡ told) × FailsLoading given first start count leaves
+ComesToLoad given told start count (MemoryFailed task.Counting) leaves = (first : CardView) × (is_known first ≡ told) × FailsLoading given first start count leaves
 ComesToLoad given told start count ending leaves = ⊥
 
 -- The run ended so: nothing is put into the sink before its last line.

@@ -23,7 +23,7 @@ use Rattle.command_line.specs.declared.requests.Mode.{Mode}
 use Rattle.command_line.specs.declared.requests.Mode.TheVariants.{Bip, Load}
 use Rattle.section_lines.specs.SectionReading.{AtStart}
 use Rattle.long_runs.specs.declared.counts.Counts.{Counts}
-use Rattle.run_steps.specs.declared.steps.MemoryFailed.{MemoryFailed}
+use Rattle.run_steps.specs.declared.steps.MemoryFailed.{MemoryFailed as Failure}
 use Rattle.uicc_run.specs.Causes.{KeepsContent}
 use Rattle.uicc_run.specs.Endings.{HasFailed, IsEarly, IsUnopened, KeepsBytes, status_for}
 use Rattle.uicc_run.specs.Headline.{Comes}
@@ -34,7 +34,9 @@ use Rattle.uicc_run.specs.Stores.{mark_of}
 use Rattle.uicc_run.specs.Terminals.{ComesToBip}
 use Rattle.uicc_run.specs.Worlds.{World}
 use Rattle.uicc_run.specs.declared.endings.Ending.{Ending}
-use Rattle.uicc_run.specs.declared.endings.Ending.TheVariants.{Usage, NoMemory, FormatFailed, EepromFailed, NotACard, NoApplet, Played, Counted, LoadFailed}
+use Rattle.uicc_run.specs.declared.endings.Ending.TheVariants.{Usage, NoMemory, MemoryFailed, NoCard, Played, Counted}
+use Rattle.uicc_run.specs.declared.endings.Task.TheVariants as task
+use Rattle.uicc_run.specs.declared.endings.Refusal.TheVariants.{NotACard, NoApplet}
 use Rattle.uicc_run.specs.declared.listeners.Listener.{Listener}
 
 -- over a store: the bytes are those that it stands for
@@ -56,9 +58,7 @@ left_of mark after = record { held = standing mark after.contents; taken = after
 
 -- an end at which the memory failed, and nothing is shown but the last line: no card was open, or the run was a long one
 abbrev pub IsUnshown : Ending → Type 0
-IsUnshown FormatFailed = Unit {0}
-IsUnshown EepromFailed = Unit {0}
-IsUnshown LoadFailed = Unit {0}
+IsUnshown (MemoryFailed when) = Unit {0}
 IsUnshown ending = ⊥
 
 -- A run is given this text and these boxes; its lines are for this listener, and those before `start` are added to this card, if there is
@@ -93,10 +93,10 @@ makes None mark before after = after ≡ before
 
 -- why a run ends whose card was not opened
 abbrev pub ending_for : OpenFault → Ending
-ending_for (fault.NotACard at) = NotACard at
-ending_for (fault.NoBox shelf) = NoApplet shelf
-ending_for fault.Failed = EepromFailed
-ending_for fault.PowerLost = EepromFailed
+ending_for (fault.NotACard at) = NoCard (NotACard at)
+ending_for (fault.NoBox shelf) = NoCard (NoApplet shelf)
+ending_for fault.Failed = MemoryFailed task.Opening
+ending_for fault.PowerLost = MemoryFailed task.Opening
 ending_for fault.Memory = NoMemory
 
 -- ---- over any memory
@@ -151,12 +151,12 @@ pub record LoadsUntold (mark mark_then start count : ℕ) (ending : Ending) (bef
 -- and where the card is only opened, of a store with this mark: no end of it is one of a formatting
 pub record KeepsOpened (mark : ℕ) (ending : Ending) (before after : World) : Type 0 where
   pub bytes : KeepsBytes ending (standing mark before.contents) → after.contents ≡ before.contents
-  pub formatted : ending ≢ FormatFailed
+  pub formatted : ending ≢ MemoryFailed task.Formatting
 
 -- why it ends where the card was open
-abbrev pub ending_for_load : ℕ → Result Counts MemoryFailed → Ending
+abbrev pub ending_for_load : ℕ → Result Counts Failure → Ending
 ending_for_load lines (Ok counts) = Counted lines counts
-ending_for_load lines (Err failed) = LoadFailed
+ending_for_load lines (Err failed) = MemoryFailed task.Counting
 
 -- what the run of a terminal's channels comes to, and leaves alone: what it is for the memory and the boxes to be as they were
 pub record ServesBip (before after : World) (MemoryIsSame BoxesAreSame : Type 0) (ending : Ending) : Type 0 where

@@ -15,11 +15,13 @@ use Rattle.uicc_run.specs.Headline.{Closes, Traces, last_text}
 use Rattle.uicc_run.specs.Loading.{AskToLoad, IsFixedCard, LoadsFrom, TracesLoad}
 use Rattle.uicc_run.specs.Opening.{RunsFrom}
 use Rattle.uicc_run.specs.Playing.{Given}
-use Rattle.uicc_run.specs.Scripts.{CanOpen, HoldsDescribed, IsFirstBad, IsFirstTooMuch, IsGoodScript, IsUndisturbed, MeetsBad, ReachesStart, Refusal, RefusesAndTells, StopsAndTells, StopsAtStart, StopsBehind, TellsNext, TellsWhy}
+use Rattle.uicc_run.specs.Scripts.{CanOpen, HoldsDescribed, IsFirstBad, IsFirstTooMuch, IsGoodScript, IsUndisturbed, MeetsBad, ReachesStart, RefusesAndTells, StopsAndTells, StopsAtStart, StopsBehind, TellsNext, TellsWhy}
 use Rattle.uicc_run.specs.Stores.{content_in}
 use Rattle.uicc_run.specs.Terminals.{AskForBip, IsUnbroken, TracesBip}
 use Rattle.uicc_run.specs.Worlds.{Seen, World, left_in, seen}
-use Rattle.uicc_run.specs.declared.endings.Ending.TheVariants.{Usage, EepromFailed}
+use Rattle.uicc_run.specs.declared.endings.Ending.TheVariants.{Usage, MemoryFailed}
+use Rattle.uicc_run.specs.declared.endings.Task.TheVariants as task
+use Rattle.uicc_run.specs.declared.endings.Refusal.{Refusal}
 
 -- ---- which scripts end with which status
 
@@ -82,7 +84,7 @@ pub record HasCauses (status : ℕ) (before after : World) : Type 0 where
   pub sink_failed : CountsFailure before.sink after.sink (status ≡ 4)
   pub memory_failed : status ≡ 6 → HasFailed before.meter after.meter
   pub reset_failed : status ≡ 6
-      → Rose before.meter.faults after.meter.faults ⊎ (after.taken ≡ append_known before.taken (last_text EepromFailed))
+      → Rose before.meter.faults after.meter.faults ⊎ (after.taken ≡ append_known before.taken (last_text (MemoryFailed task.Opening)))
   pub tells : is_some after.taken ≡ is_some before.taken
 
 -- ---- the three parts of what `run` owes

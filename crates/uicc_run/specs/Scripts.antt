@@ -9,7 +9,6 @@ use Rattle.byte_streams.specs.Reading.{IsTakenFor}
 use Rattle.script_form.specs.Traces.{trace_text}
 use Rattle.script_form.specs.declared.lines.ScriptLine.{ScriptLine}
 use Rattle.script_form.specs.declared.lines.ScriptLine.TheVariants.{Start}
-use Rattle.script_form.specs.declared.trace.TraceLine.{TraceLine}
 use Rattle.script_form.specs.declared.trace.TraceLine.TheVariants as line
 use Rattle.script_reader.specs.Behind.{IsBadBehind}
 use Rattle.script_reader.specs.Said.{Say}
@@ -25,6 +24,9 @@ use Rattle.uicc_run.specs.Playing.{Given}
 use Rattle.uicc_run.specs.Worlds.{Seen}
 use Rattle.uicc_run.specs.Steps.{may_stand}
 use Rattle.uicc_run.specs.Stores.{mark_of}
+use Rattle.uicc_run.specs.Endings.{refusal_line}
+use Rattle.uicc_run.specs.declared.endings.Refusal.{Refusal}
+use Rattle.uicc_run.specs.declared.endings.Refusal.TheVariants.{NotACard, NoApplet}
 
 -- These lines say what stands before `start` and after it, each in its place; those before it describe this card, over the one
 -- that the run begins with.
@@ -88,16 +90,6 @@ pub record HoldsWholeCard (given : Given) : Type 0 where
 abbrev pub CanOpen : Given → Type 0
 CanOpen given = ReachesStart given None → HoldsWholeCard given
 
--- why a card can't be opened: this check of the memory fails first, or the applet on this shelf has no box
-pub data Refusal : Type 0 where
-  NoCardAt : ℕ → Refusal
-  NoBoxOn : ℕ → Refusal
-
--- the last line of the trace, which says why
-abbrev pub refusal_line : Refusal → TraceLine
-refusal_line (NoCardAt at) = line.NotACard at
-refusal_line (NoBoxOn shelf) = line.NoApplet shelf
-
 -- the memory holds a card, and this is the smallest shelf on which an applet is registered in it that lacks its box
 pub record LacksApplet (given : Given) (shelf : ℕ) : Type 0 where
   pub start : Persistent
@@ -106,8 +98,8 @@ pub record LacksApplet (given : Given) (shelf : ℕ) : Type 0 where
 
 -- it is for this that what the memory holds can't be opened
 abbrev pub CannotOpen : Given → Refusal → Type 0
-CannotOpen given (NoCardAt at) = given.memory ≡ Err at
-CannotOpen given (NoBoxOn shelf) = LacksApplet given shelf
+CannotOpen given (NotACard at) = given.memory ≡ Err at
+CannotOpen given (NoApplet shelf) = LacksApplet given shelf
 
 -- `start` comes after lines that describe no card, and it is for this that the memory's can't be opened
 pub record StopsAtStart (given : Given) (why : Refusal) : Type 0 where

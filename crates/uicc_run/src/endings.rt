@@ -16,20 +16,34 @@ pub enum Ending {
     NoMemory,
     /// The script was read no further than before `start`.
     Section(ScriptFault),
-    /// The card's memory failed, or lost power, while it was formatted.
-    FormatFailed,
-    /// The card's memory failed, or lost power, while the card was opened.
-    EepromFailed,
-    /// The memory holds no card: the check at this place is the first that fails.
-    NotACard(usize),
-    /// The applet that is registered on this shelf is not there.
-    NoApplet(u8),
+    /// The card's memory failed, or lost power, in this, and no line of the trace has said so.
+    MemoryFailed(Task),
+    /// What the memory holds can't be opened.
+    NoCard(Refusal),
     /// It ended after `start`.
     Played(PlayEnd),
     /// A long run was carried out: so many lines were given to its handset, and this is counted in its trace.
     Counted { lines: u32, counts: Counts },
-    /// The memory failed in a reset of a long run.
-    LoadFailed,
+}
+
+/// In what the card's memory failed.
+#[derive(Clone, Copy, Debug, PartialEq, Eq)]
+pub enum Task {
+    /// It was formatted.
+    Formatting,
+    /// The card was opened.
+    Opening,
+    /// The card was reset in a long run, of which no trace is kept.
+    Counting,
+}
+
+/// Why a card can't be opened.
+#[derive(Clone, Copy, Debug, PartialEq, Eq)]
+pub enum Refusal {
+    /// The memory holds none: the check at this place is the first that fails.
+    NotACard(usize),
+    /// The applet that is registered on this shelf is not there.
+    NoApplet(u8),
 }
 
 /// The status that the program ends with.
@@ -43,11 +57,8 @@ pub fn status_of(ending: &Ending) -> u8
         Ending::Section(ScriptFault::ReadFailed) | Ending::Played(PlayEnd::ReadFailed) => 3,
         Ending::Played(PlayEnd::SinkFailed) => 4,
         Ending::NoMemory => 5,
-        Ending::FormatFailed
-        | Ending::EepromFailed
-        | Ending::Played(PlayEnd::ResetFailed)
-        | Ending::LoadFailed => 6,
-        Ending::NotACard(_) | Ending::NoApplet(_) => 7,
+        Ending::MemoryFailed(_) | Ending::Played(PlayEnd::ResetFailed) => 6,
+        Ending::NoCard(_) => 7,
         Ending::Section(ScriptFault::NoRoom(_)) => 8,
     }
 }
@@ -65,11 +76,9 @@ pub fn last_line(ending: &Ending) -> Option<TraceLine>
             Some(TraceLine::ReadFailed)
         }
         Ending::NoMemory => Some(TraceLine::NoMemory),
-        Ending::FormatFailed | Ending::EepromFailed | Ending::LoadFailed => {
-            Some(TraceLine::EepromFailed)
-        }
-        Ending::NotACard(at) => Some(TraceLine::NotACard(*at)),
-        Ending::NoApplet(shelf) => Some(TraceLine::NoApplet(*shelf)),
+        Ending::MemoryFailed(_) => Some(TraceLine::EepromFailed),
+        Ending::NoCard(Refusal::NotACard(at)) => Some(TraceLine::NotACard(*at)),
+        Ending::NoCard(Refusal::NoApplet(shelf)) => Some(TraceLine::NoApplet(*shelf)),
         Ending::Counted { lines, counts } => Some(counts_line(*lines, counts)),
     }
 }

@@ -16,7 +16,7 @@ mod terminals;
 
 pub use answering::{answer, device_size};
 pub use command_line::{Devices, devices};
-pub use endings::Ending;
+pub use endings::{Ending, Refusal, Task};
 pub use laws::{numbers_are_standard, served_traces_are_one, traces_are_one};
 pub use run_steps::CardEnd;
 pub use running::{close, run};

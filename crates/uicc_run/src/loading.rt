@@ -10,7 +10,7 @@ ghost use Rattle.uicc_run.specs.Loading.{ComesToLoad, HoldsFixed, IsFixedCard, I
 ghost use Rattle.uicc_run.specs.Playing.{Given};
 ghost use Rattle.uicc_run.specs.Stores.{mark_of};
 
-use crate::endings::Ending;
+use crate::endings::{Ending, Task};
 use crate::running::ending_of;
 use applet_trait::Applet;
 use card_core::CardOver;
@@ -86,7 +86,7 @@ fn load_over<S: Store, B: Applet>(
     runs_are_counted();
     match format(&mut store, section) {
         Ok(()) => open_and_load(alloc, start, count, store, cast),
-        Err(_) => (Ending::FormatFailed, store, cast),
+        Err(_) => (Ending::MemoryFailed(Task::Formatting), store, cast),
     }
 }
 
@@ -133,6 +133,6 @@ fn counted(lines: u32, outcome: Result<Counts, MemoryFailed>) -> Ending
 {
     match outcome {
         Ok(counts) => Ending::Counted { lines, counts },
-        Err(MemoryFailed) => Ending::LoadFailed,
+        Err(MemoryFailed) => Ending::MemoryFailed(Task::Counting),
     }
 }

@@ -27,7 +27,7 @@ ghost use Rattle.uicc_run.specs.Running.{RunsAsAsked};
 ghost use Rattle.uicc_run.specs.Worlds.{world};
 ghost use Rattle.uicc_run.specs.Stores.{mark_of, size_of};
 
-use crate::endings::{Ending, last_line, status_of};
+use crate::endings::{Ending, Refusal, Task, last_line, status_of};
 use crate::listeners::{Listener, carrier_by, listener_for};
 use crate::loading::load;
 use crate::playing::play_lines;
@@ -171,7 +171,7 @@ fn read_and_play<S: Store, R: Source, W: Sink, B: Applet>(
         Err(fault) => (Ending::Section(fault), store, cast),
         Ok(()) => match make(&mut store, &card) {
             Ok(()) => open_and_play(alloc, listener, &mut reader, script, trace, store, cast),
-            Err(_) => (Ending::FormatFailed, store, cast),
+            Err(_) => (Ending::MemoryFailed(Task::Formatting), store, cast),
         },
     }
 }
@@ -288,9 +288,9 @@ pub fn ending_of(fault: OpenFault) -> Ending
     ensures { result ≡ ending_for fault }
 {
     match fault {
-        OpenFault::NotACard(at) => Ending::NotACard(at),
-        OpenFault::NoBox(shelf) => Ending::NoApplet(shelf),
-        OpenFault::Failed | OpenFault::PowerLost => Ending::EepromFailed,
+        OpenFault::NotACard(at) => Ending::NoCard(Refusal::NotACard(at)),
+        OpenFault::NoBox(shelf) => Ending::NoCard(Refusal::NoApplet(shelf)),
+        OpenFault::Failed | OpenFault::PowerLost => Ending::MemoryFailed(Task::Opening),
         OpenFault::Memory => Ending::NoMemory,
     }
 }
