@@ -15,7 +15,7 @@ use Rattle.script_reader.proofs.AreReadLemmas.{AreRead-more}
 use Rattle.script_reader.specs.Behind.{end_for}
 use Rattle.script_reader.specs.Reading.{Finds, Follows, GivesNext, IsUnread}
 use Rattle.script_reader.specs.declared.behind.PlayEnd.{PlayEnd}
-use Rattle.script_reader.specs.declared.behind.PlayEnd.TheVariants.{Finished, BadLine, ReadFailed, SinkFailed, ResetFailed}
+use Rattle.script_reader.specs.declared.behind.PlayEnd.TheVariants.{Finished, BadLine, SinkFailed, ResetFailed}
 use Rattle.script_reader.specs.declared.faults.ScriptFault.{ScriptFault}
 use Rattle.script_reader.specs.declared.faults.ScriptFault.TheVariants as fault
 use Rattle.script_reader.specs.declared.reader.ScriptReader.{ScriptReader}
@@ -174,11 +174,9 @@ ends_serving text before place script left left_then taken held end order cause 
 }
 
 to_end : (text : List ℕ) (before left taken : Option (List ℕ)) (end : PlayEnd) → EndsServing text before left taken end → BipComesTo text before left taken end
-to_end text before left taken Finished ends = ends
-to_end text before left taken (BadLine number) ends = ends
-to_end text before left taken ReadFailed ends = ends
 to_end text before left taken SinkFailed ends = absurd ends.cause
 to_end text before left taken ResetFailed ends = absurd ends.cause
+to_end text before left taken other ends = ends
 
 -- no more lines are read
 pub no_more_serve : (text : List ℕ) (before : Option (List ℕ)) (place : Place) (script next : ScriptReader) (left left_then taken : Option (List ℕ)) (held : List Held) (end : PlayEnd) → ((h : List Occurrence) → AreInOrder h)

@@ -48,19 +48,14 @@ leads_nowhere S says next more bytes line others place to is bad read leads =
 
 not_whole : (S : List ℕ → ScriptLine → Type 0) → Says S → (next : LineList) (all : List ScriptLine) (place : Place) → IsBadAt place next → Each S next all → moved_by place all ≡ Some Behind → ⊥
 not_whole S says [] [] place bad each is = subst IsUnstarted (same_place is) bad
-not_whole S says [] (line ∷ all) place bad each is = each
-not_whole S says (None ∷ next) [] place bad each is = each
-not_whole S says (Some bytes ∷ next) [] place bad each is = each
-not_whole S says (None ∷ next) (line ∷ all) place bad each is = each
 not_whole S says (Some bytes ∷ next) (line ∷ all) place bad each is = leads_nowhere S says (Some bytes ∷ next) next bytes line all place Behind refl bad each.0 is
+not_whole S says (None ∷ next) [] place bad each is = each
+not_whole S says next all place bad each is = each
 
 -- a text that is good has no line at which it stops
 no_stop : (R S : List ℕ → ScriptLine → Type 0) → Agree R S → Says S → (found next : LineList) (said all : List ScriptLine) (from place : Place) → Each R found said → moved_by from said ≡ Some place → IsBadAt place next → Each S (found ++ next) all → moved_by from all ≡ Some Behind → ⊥
 no_stop R S agree says [] next [] all from place read is bad each whole = not_whole S says next all from (subst (λ p. IsBadAt p next) (sym (same_place is)) bad) each whole
-no_stop R S agree says [] next (line ∷ said) all from place read is bad each whole = read
-no_stop R S agree says (None ∷ found) next [] all from place read is bad each whole = read
-no_stop R S agree says (Some bytes ∷ found) next [] all from place read is bad each whole = read
-no_stop R S agree says (None ∷ found) next (line ∷ said) all from place read is bad each whole = read
+no_stop R S agree says (x ∷ found) next [] all from place read is bad each whole = read
 no_stop R S agree says (Some bytes ∷ found) next (line ∷ said) [] from place read is bad each whole = each
 no_stop R S agree says (Some bytes ∷ found) next (line ∷ said) (other ∷ all) from place read is bad each whole =
     let first = comes (λ p. moved_by p said) (moved from line) place is in
@@ -68,26 +63,22 @@ no_stop R S agree says (Some bytes ∷ found) next (line ∷ said) (other ∷ al
     let same = agree bytes line other read.0 each.0 in
     let both : first.middle ≡ second.middle = same_place (sym first.first_is ∙ ap (moved from) same ∙ second.first_is) in
     no_stop R S agree says found next said all first.middle place read.1 first.then_is bad each.1 (subst (λ p. moved_by p all ≡ Some Behind) (sym both) second.then_is)
+no_stop R S agree says found next said all from place read is bad each whole = read
 
 -- and a text stops at one line alone
 one_stop : (R S : List ℕ → ScriptLine → Type 0) → Agree R S → Says R → Says S → (found other next behind : LineList) (said others : List ScriptLine) (from place to : Place)
     → Each R found said → moved_by from said ≡ Some place → IsBadAt place next → Each S other others → moved_by from others ≡ Some to → IsBadAt to behind → found ++ next ≡ other ++ behind → found ≡ other
 one_stop R S agree says_r says_s [] [] next behind said others from place to read is bad each leads stop parted = refl
-one_stop R S agree says_r says_s [] (None ∷ other) next behind said [] from place to read is bad each leads stop parted = absurd each
-one_stop R S agree says_r says_s [] (None ∷ other) next behind said (line ∷ others) from place to read is bad each leads stop parted = absurd each
-one_stop R S agree says_r says_s [] (Some bytes ∷ other) next behind said [] from place to read is bad each leads stop parted = absurd each
+one_stop R S agree says_r says_s found (x ∷ other) next behind said [] from place to read is bad each leads stop parted = absurd each
+one_stop R S agree says_r says_s found (None ∷ other) next behind said (line ∷ others) from place to read is bad each leads stop parted = absurd each
+one_stop R S agree says_r says_s (x ∷ found) other next behind [] others from place to read is bad each leads stop parted = absurd read
 one_stop R S agree says_r says_s [] (Some bytes ∷ other) next behind (line ∷ said) (one ∷ others) from place to read is bad each leads stop parted = absurd read
 one_stop R S agree says_r says_s [] (Some bytes ∷ other) next behind [] (line ∷ others) from place to read is bad each leads stop parted =
     absurd (leads_nowhere S says_s next (other ++ behind) bytes line others from to parted (subst (λ p. IsBadAt p next) (sym (same_place is)) bad) each.0 leads)
-one_stop R S agree says_r says_s (None ∷ found) other next behind [] others from place to read is bad each leads stop parted = absurd read
 one_stop R S agree says_r says_s (None ∷ found) other next behind (line ∷ said) others from place to read is bad each leads stop parted = absurd read
-one_stop R S agree says_r says_s (Some bytes ∷ found) other next behind [] others from place to read is bad each leads stop parted = absurd read
 one_stop R S agree says_r says_s (Some bytes ∷ found) [] next behind (line ∷ said) (one ∷ others) from place to read is bad each leads stop parted = absurd each
 one_stop R S agree says_r says_s (Some bytes ∷ found) [] next behind (line ∷ said) [] from place to read is bad each leads stop parted =
     absurd (leads_nowhere R says_r behind (found ++ next) bytes line said from place (sym parted) (subst (λ p. IsBadAt p behind) (sym (same_place leads)) stop) read.0 is)
-one_stop R S agree says_r says_s (Some bytes ∷ found) (None ∷ other) next behind (line ∷ said) [] from place to read is bad each leads stop parted = absurd each
-one_stop R S agree says_r says_s (Some bytes ∷ found) (None ∷ other) next behind (line ∷ said) (one ∷ others) from place to read is bad each leads stop parted = absurd each
-one_stop R S agree says_r says_s (Some bytes ∷ found) (Some same ∷ other) next behind (line ∷ said) [] from place to read is bad each leads stop parted = absurd each
 one_stop R S agree says_r says_s (Some bytes ∷ found) (Some same ∷ other) next behind (line ∷ said) (one ∷ others) from place to read is bad each leads stop parted =
     let cons : Some bytes ∷ (found ++ next) ≡ Some same ∷ (other ++ behind) = parted in
     let bytes_are : bytes ≡ same = cc in

@@ -18,9 +18,8 @@ tells_whole before after part is = ap is_some is ∙ some_known before part
 
 pub tells_front : (before after : Option (List ℕ)) (part : List ℕ) → Becomes (TakesFront part) before after → is_some after ≡ is_some before
 tells_front None None part takes = refl
-tells_front None (Some now) part takes = absurd takes
-tells_front (Some bytes) None part takes = absurd takes
 tells_front (Some bytes) (Some now) part takes = refl
+tells_front before now part takes = absurd takes
 
 pub tells_put : (result : Result (Unit {0}) Failed) (before after : Option (List ℕ)) (part : List ℕ) → OnOk result (after ≡ append_known before part) → OnErr result (Becomes (TakesFront part) before after) → is_some after ≡ is_some before
 tells_put (Ok done) before after part whole front = tells_whole before after part whole

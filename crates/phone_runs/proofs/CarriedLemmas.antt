@@ -1,12 +1,12 @@
 -- What a handset sends goes over the link of its carrier, where that is one.
-use Rattle.std.proofs.Common.{◌≡◌, ℕ, suc, ◌+◌, ◌≤◌, min, Bool, true, if◌then◌else◌, List, [], ◌∷◌, Option, Some, refl, sym, ap, ◌∙◌, subst, arith, Ok, Err}
+use Rattle.std.proofs.Common.{◌≡◌, ℕ, suc, ◌+◌, ◌≤◌, min, Bool, true, if◌then◌else◌, List, [], ◌∷◌, Option, Some, refl, sym, ap, ◌∙◌, subst, arith, Err}
 use Rattle.uicc_types.specs.declared.answers.Answer.{Answer}
 use Rattle.apdu_form.specs.Model.{Apdu}
 use Rattle.t0_link.specs.Carrying.{is_carried, tpdus_by, tpdus_for, tpdus_if_carried, tpdus_sent}
 use Rattle.t0_link.specs.Tpdus.{transfer_of}
 use Rattle.t0_link.specs.declared.tpdus.Transfer.{Transfer}
-use Rattle.t0_link.specs.declared.tpdus.Transfer.TheVariants.{GetResponse, Outgoing, Incoming}
-use Rattle.t0_link.specs.declared.endpoint.LinkFault.TheVariants.{PowerLost, NoPower}
+use Rattle.t0_link.specs.declared.tpdus.Transfer.TheVariants.{Incoming}
+use Rattle.t0_link.specs.declared.endpoint.LinkFault.TheVariants.{PowerLost}
 use Rattle.script_form.specs.declared.handset.HandsetLine.{HandsetLine}
 use Rattle.script_form.specs.declared.handset.Note.{Note}
 use Rattle.handset_model.specs.History.{Happened, Noted, Said, Sent, commands, known}
@@ -30,18 +30,12 @@ use Rattle.phone_runs.specs.Serving.{CarriesMore, IsPhoneServed, replied, reset_
 -- ---- each command goes over it
 
 one_by : (way : Transfer) (body : List ℕ) → 1 ≤ tpdus_by way body
-one_by GetResponse body = omega arith
-one_by Outgoing body = omega arith
-one_by Incoming [] = omega arith
 one_by Incoming (byte ∷ more) = omega arith
+one_by way body = omega arith
 
 carried_parts : (command : Command) → is_carried (parts_of command) ≡ true
 carried_parts sent.SelectMf = refl
-carried_parts sent.SendProfile = refl
-carried_parts (sent.Fetch size) = refl
-carried_parts (sent.Respond details reply) = refl
-carried_parts (sent.Tell report) = refl
-carried_parts sent.AskStatus = refl
+carried_parts other = refl
 
 one_at_least : (command : Command) (body : List ℕ) → 1 ≤ tpdus_for (apdu_of command) body
 one_at_least command body =
@@ -58,9 +52,8 @@ commands_at : (phone : Kept) (h : List Happened) → phone ≡ kept h → phone.
 commands_at phone h is = ap (λ (k : Kept). k.known.commands) is ∙ commands_kept h
 
 replied_commands : (outcome : Outcome) (answer : Answer) (h : List Happened) → commands (replied outcome answer ∷ h) ≡ commands h
-replied_commands (Ok done) answer h = refl
 replied_commands (Err PowerLost) answer h = refl
-replied_commands (Err NoPower) answer h = refl
+replied_commands other answer h = refl
 
 reset_commands : (outcome : AReset) (h : List Happened) → commands (reset_by outcome ∷ h) ≡ commands h
 reset_commands ended.Done h = refl

@@ -18,7 +18,7 @@ use Rattle.handset_model.specs.Rules.{asked}
 use Rattle.handset_model.specs.Sending.{apdu_of}
 use Rattle.handset_model.specs.declared.commands.Command.{Command}
 use Rattle.handset_model.specs.declared.known.Duty.{Duty}
-use Rattle.handset_model.specs.declared.known.Duty.TheVariants.{Rest, Transmit, Await, Show, ResetCard}
+use Rattle.handset_model.specs.declared.known.Duty.TheVariants.{Transmit, Show, ResetCard}
 use Rattle.run_steps.proofs.GoesOnLemmas.{text_of-append}
 use Rattle.run_steps.specs.Runs.{item_text, text_of}
 use Rattle.run_steps.specs.Stepping.{BreaksOff, IsCutOff, Moment}
@@ -86,8 +86,7 @@ replied_power on after apdu other items replies seen = absurd replies
 replied_so : (old new : CardView) (apdu : List ℕ) (items : List TraceItem) → StepShows old (step.Apdu apdu) items new → IsReplied apdu items
 replied_so (TheCard old) (TheCard new) apdu items gives = replied_by old.on old new apdu items gives
 replied_so (ItsPower on) (ItsPower after) apdu items may = replied_power on after apdu may.0 items may.1 may.2
-replied_so (TheCard old) (ItsPower after) apdu items none = absurd none
-replied_so (ItsPower on) (TheCard new) apdu items none = absurd none
+replied_so old new apdu items none = absurd none
 
 pub command_begun : (log : List Event) (command : Command) (old new : CardView) (items : List TraceItem) (due set : List Plan) → asked (history log) ≡ Transmit command → IsOrderly (history log)
     → BreaksOff old (step.Apdu (apdu_of command)) items due set new → IsBegun (heard (log_lines log)) (trace log ++ map Seen items)
@@ -108,14 +107,12 @@ reset_items (TheCard old) (TheCard new) items (inl done) = inl done.seen
 reset_items (TheCard old) (TheCard new) items (inr cut) = inr cut.seen
 reset_items (ItsPower on) (ItsPower after) items (inl done) = inl done.0
 reset_items (ItsPower on) (ItsPower after) items (inr cut) = inr cut.0
-reset_items (TheCard old) (ItsPower after) items none = absurd none
-reset_items (ItsPower on) (TheCard new) items none = absurd none
+reset_items old new items none = absurd none
 
 pub last_items : (old new : CardView) (items : List TraceItem) → LastShows old step.Reset items new → items ≡ item.EepromFailed ∷ []
 last_items (TheCard old) (TheCard new) items fails = fails.seen
 last_items (ItsPower on) (ItsPower after) items fails = fails
-last_items (TheCard old) (ItsPower after) items none = absurd none
-last_items (ItsPower on) (TheCard new) items none = absurd none
+last_items old new items none = absurd none
 
 restart_begun : (log : List Event) (items : List TraceItem) → asked (history log) ≡ ResetCard → IsOrderly (history log) → (items ≡ item.Reset ∷ []) ⊎ (items ≡ item.Cut ∷ []) → IsBegun (heard (log_lines log)) (trace log ++ map Seen items)
 restart_begun log items is orderly (inl done) =
@@ -152,8 +149,7 @@ shows_broken given log old now (Transmit command) is orderly broken =
 shows_broken given log old now ResetCard is orderly broken =
     record { entries = _; shows = shows_step given log old step.Reset now broken (reset_begun log old broken.card broken.pending _ broken.set is orderly broken.broken) }
 shows_broken given log old now (Show note) is orderly broken = record { entries = _; shows = shows_note given log old note now is orderly broken }
-shows_broken given log old now Rest is orderly broken = absurd broken
-shows_broken given log old now Await is orderly broken = absurd broken
+shows_broken given log old now other is orderly broken = absurd broken
 
 shows_told : (given : Beginning) (told other : List PhoneLine) (now : Moment) → other ≡ told → ShowsBegun given other now → ShowsBegun given told now
 shows_told given told other now same shows = subst (λ t. ShowsBegun given t now) same shows

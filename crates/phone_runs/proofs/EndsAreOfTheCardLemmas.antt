@@ -10,7 +10,7 @@ use Rattle.handset_model.specs.Rules.{asked}
 use Rattle.handset_model.specs.Sending.{apdu_of}
 use Rattle.handset_model.specs.declared.commands.Command.{Command}
 use Rattle.handset_model.specs.declared.known.Duty.{Duty}
-use Rattle.handset_model.specs.declared.known.Duty.TheVariants.{Rest, Transmit, Await, Show, ResetCard}
+use Rattle.handset_model.specs.declared.known.Duty.TheVariants.{Transmit, Show, ResetCard}
 use Rattle.run_steps.proofs.ViewLemmas.{run_failed, run_shown_of, steps_one, steps_then}
 use Rattle.run_steps.specs.Stepping.{BreaksOff, Holds, Moment}
 use Rattle.run_steps.specs.Views.{CardView, IsRunOf, LastShows, StepShows}
@@ -91,8 +91,7 @@ broken_of_card given log old now ResetCard is run broken = record {
   stands = broken.stands;
 }
 broken_of_card given log old now (Show note) is run broken = note_of_card given log old note now is broken run
-broken_of_card given log old now Rest is run broken = absurd broken
-broken_of_card given log old now Await is run broken = absurd broken
+broken_of_card given log old now other is run broken = absurd broken
 
 pub ended_of_card : EndsAreOfTheCard
 ended_of_card given told now SinkFailed broken =

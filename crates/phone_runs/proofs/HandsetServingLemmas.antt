@@ -134,16 +134,13 @@ module _ (goes : EventsGoOn) (others : OthersLeaveUnanswered) (reads : DetailsAr
   -- FETCH and TERMINAL RESPONSE are served
   serves : (card : CardState) (command : Command) → CanServe card → Allows card command → is_fetch_or_response (apdu_of command) ≡ true → IsServing (answer_to card command).status
   unfolding apdu_of
-  serves card sent.SelectMf ready allows is = absurd (false≢true is)
-  serves card sent.SendProfile ready allows is = absurd (false≢true is)
   serves card (sent.Fetch size) ready allows is = inl (fetches card size ready allows).gives.status
   serves card (sent.Respond details reply) ready allows is = either (responds card details reply ready allows) where
     either : ((answer card (apdu_of (sent.Respond details reply))).status ≡ DONE) ⊎ ((answer card (apdu_of (sent.Respond details reply))).status.0 / 256 ≡ 0x91)
         → IsServing (answer_to card (sent.Respond details reply)).status
     either (inl done) = inl done
     either (inr told) = inr (inl told)
-  serves card (sent.Tell told) ready allows is = absurd (false≢true is)
-  serves card sent.AskStatus ready allows is = absurd (false≢true is)
+  serves card other ready allows is = absurd (false≢true is)
 
   -- ---- both
 

@@ -96,35 +96,21 @@ noted_calm count duty note less is = let same : work count duty ≡ work count A
 less_twice : (one two three : ℕ) → one < two → two < three → one < three
 less_twice one two three first second = omega arith
 
-pub sent_next : LinesEnd → (h : List Happened) (command : Command) (outcome : Outcome) (answer : Answer) → IsOrderly h → asked h ≡ Transmit command → IsNext h (replied outcome answer ∷ Sent command ∷ h)
-sent_next ending h command (Ok done) answer orderly is =
-    let first : IsOrderly (Sent command ∷ h) = (is, orderly) in
-    let second : IsOrderly (Answered answer ∷ Sent command ∷ h) = (refl, first) in
-    let less = ending (Sent command ∷ h) (Answered answer) second tt in
+sent_by : LinesEnd → (h : List Happened) (command : Command) (event : Happened) → IsOrderly (Sent command ∷ h) → IsOrderly (event ∷ Sent command ∷ h) → IsOfLine event → commands (event ∷ Sent command ∷ h) ≡ commands (Sent command ∷ h)
+    → clock (event ∷ Sent command ∷ h) ≡ clock h → IsNext h (event ∷ Sent command ∷ h)
+sent_by ending h command event first second of_line same_commands same_clock =
+    let less = ending (Sent command ∷ h) event second of_line in
     record {
       orderly = second;
       less = less_twice _ _ _ less (ending h (Sent command) first tt);
-      clock_is = refl;
-      no_answer = answered_calm (commands (Sent command ∷ h)) (asked (Answered answer ∷ Sent command ∷ h)) less;
+      clock_is = same_clock;
+      no_answer = answered_calm (commands (Sent command ∷ h)) (asked (event ∷ Sent command ∷ h)) (subst (λ count. work count (asked (event ∷ Sent command ∷ h)) < work_left (Sent command ∷ h)) same_commands less);
     }
-sent_next ending h command (Err PowerLost) answer orderly is =
-    let first : IsOrderly (Sent command ∷ h) = (is, orderly) in
-    let second : IsOrderly (PowerCut ∷ Sent command ∷ h) = (inl refl, first) in
-    record {
-      orderly = second;
-      less = less_twice _ _ _ (ending (Sent command ∷ h) PowerCut second tt) (ending h (Sent command) first tt);
-      clock_is = refl;
-      no_answer = λ awaits. cc;
-    }
-sent_next ending h command (Err NoPower) answer orderly is =
-    let first : IsOrderly (Sent command ∷ h) = (is, orderly) in
-    let second : IsOrderly (FoundOff ∷ Sent command ∷ h) = (refl, first) in
-    record {
-      orderly = second;
-      less = less_twice _ _ _ (ending (Sent command ∷ h) FoundOff second tt) (ending h (Sent command) first tt);
-      clock_is = refl;
-      no_answer = λ awaits. cc;
-    }
+
+pub sent_next : LinesEnd → (h : List Happened) (command : Command) (outcome : Outcome) (answer : Answer) → IsOrderly h → asked h ≡ Transmit command → IsNext h (replied outcome answer ∷ Sent command ∷ h)
+sent_next ending h command (Ok done) answer orderly is = sent_by ending h command (Answered answer) (is, orderly) (refl, (is, orderly)) tt refl refl
+sent_next ending h command (Err PowerLost) answer orderly is = sent_by ending h command PowerCut (is, orderly) (inl refl, (is, orderly)) tt refl refl
+sent_next ending h command (Err NoPower) answer orderly is = sent_by ending h command FoundOff (is, orderly) (refl, (is, orderly)) tt refl refl
 
 pub reset_next : LinesEnd → (h : List Happened) (outcome : AReset) → IsOrderly h → asked h ≡ ResetCard → IsNext h (reset_by outcome ∷ h)
 reset_next ending h ended.Done orderly is = record { orderly = (is, orderly); less = ending h Restarted (is, orderly) tt; clock_is = refl; no_answer = λ awaits. cc }

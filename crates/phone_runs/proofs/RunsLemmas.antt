@@ -148,9 +148,8 @@ abbrev pub with_reply : Command → Outcome → Answer → List Event → List E
 with_reply command outcome answer log = Happens (replied outcome answer) ∷ Happens (Sent command) ∷ log
 
 steps_sent : (command : Command) (outcome : Outcome) (answer : Answer) (log : List Event) → steps (with_reply command outcome answer log) ≡ steps log ++ step.Apdu (apdu_of command) ∷ []
-steps_sent command (Ok done) answer log = reverse-append (step.Apdu (apdu_of command) ∷ []) (steps_back log)
 steps_sent command (Err PowerLost) answer log = reverse-append (step.Apdu (apdu_of command) ∷ []) (steps_back log)
-steps_sent command (Err NoPower) answer log = reverse-append (step.Apdu (apdu_of command) ∷ []) (steps_back log)
+steps_sent command other answer log = reverse-append (step.Apdu (apdu_of command) ∷ []) (steps_back log)
 
 abbrev pub sent_entries : Command → Outcome → Answer → List TraceEntry
 sent_entries command outcome answer = Seen (item.Command (apdu_of command)) ∷ Seen (seen_of outcome answer) ∷ []
@@ -161,9 +160,8 @@ trace_sent command (Err PowerLost) answer log = reverse-append (Seen item.Cut �
 trace_sent command (Err NoPower) answer log = reverse-append (Seen item.Off ∷ Seen (item.Command (apdu_of command)) ∷ []) (entries_of (history log))
 
 pub orderly_sent : (command : Command) (outcome : Outcome) (answer : Answer) (log : List Event) → asked (history log) ≡ Transmit command → IsOrderly (history log) → IsOrderly (history (with_reply command outcome answer log))
-orderly_sent command (Ok done) answer log is orderly = (refl, (is, orderly))
 orderly_sent command (Err PowerLost) answer log is orderly = (inl refl, (is, orderly))
-orderly_sent command (Err NoPower) answer log is orderly = (refl, (is, orderly))
+orderly_sent command other answer log is orderly = (refl, (is, orderly))
 
 pub sends_on : (command : Command) (outcome : Outcome) (answer : Answer) (log : List Event) → asked (history log) ≡ Transmit command
     → GoesOnBy log (with_reply command outcome answer log) (step.Apdu (apdu_of command)) (exchanged (apdu_of command) answer outcome)
@@ -176,9 +174,8 @@ sends_on command outcome answer log is = record {
 }
 
 pub lines_sent : (command : Command) (outcome : Outcome) (answer : Answer) (log : List Event) → lines_back (with_reply command outcome answer log) ≡ lines_back log
-lines_sent command (Ok done) answer log = refl
 lines_sent command (Err PowerLost) answer log = refl
-lines_sent command (Err NoPower) answer log = refl
+lines_sent command other answer log = refl
 
 pub reaches_sent : CountsJoin → PlansAreSetInOrder → (given : Beginning) (log : List Event) (command : Command) (outcome : Outcome) (answer : Answer) (old new : Kept) (from to : Moment) → asked (history log) ≡ Transmit command
     → ((old : CardView) → IsSeen old from → TakesShowing (exchanged (apdu_of command) answer outcome) old (step.Apdu (apdu_of command)) from to)

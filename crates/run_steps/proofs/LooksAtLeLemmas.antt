@@ -47,15 +47,9 @@ module _ (card : CardState) (apdu : Apdu) where
   carried_alike (File (Contents ReadBinary)) none = cc
   carried_alike (File (Contents ReadRecord)) none = cc
   carried_alike (Pin pin.Verify) none = refl
-  carried_alike (Pin pin.Change) none = refl
-  carried_alike (Pin pin.Disable) none = refl
-  carried_alike (Pin pin.Enable) none = refl
-  carried_alike (Pin pin.Unblock) none = refl
   carried_alike ManageChannel none = ap (managed card) (closed_alike (apdu.p1 == 0x00) (apdu.p1 == 0x80 && nat_le 1 apdu.p2 && nat_le apdu.p2 3) none)
   carried_alike (Toolkit Fetch) none = cc
   carried_alike (Tree tree.Create) none = refl
-  carried_alike (Tree tree.Delete) none = refl
-  carried_alike (Tree tree.Resize) none = refl
   carried_alike _ none = refl
 
   -- applets that are told of STATUS don't, either

@@ -1,5 +1,5 @@
 -- What a step shows, and what the sink has taken of it.
-use Rattle.std.proofs.Common.{◌≡◌, ◌≤◌, ℕ, Bool, true, false, if◌then◌else◌, List, [], ◌∷◌, ◌++◌, Option, Some, None, Result, Ok, Err, refl, sym, ap, ◌∙◌, append_assoc, inl, inr, subst, option_map, arith, OnOk, OnErr, append-nil}
+use Rattle.std.proofs.Common.{◌≡◌, ◌≤◌, ℕ, Bool, true, false, if◌then◌else◌, List, [], ◌∷◌, ◌++◌, Option, Some, None, Result, Ok, Err, refl, sym, ap, ◌∙◌, append_assoc, inl, inr, subst, option_map, arith, append-nil}
 use Rattle.std.proofs.lemmas.List.Concat.{flat_map-append}
 use Rattle.std.specs.Io.KnownBytes.{append_known}
 use Rattle.uicc_types.specs.Counts.{Meter, armed as plan_given, names_fault, raised}
@@ -55,9 +55,8 @@ pub record ToldFront (was now : Option (List ℕ)) (part : List ℕ) : Type 0 wh
 
 pub told_front : (was now : Option (List ℕ)) (part : List ℕ) → Becomes (TakesFront part) was now → ToldFront was now part
 told_front None None part broken = record { front = []; begun = (part, refl); written = refl }
-told_front None (Some now) part broken = absurd broken
-told_front (Some was) None part broken = absurd broken
 told_front (Some was) (Some now) part broken = record { front = broken.0; begun = broken.1; written = ap Some broken.2 }
+told_front was now part broken = absurd broken
 
 -- the text of one item, and of two
 pub text_of_one : (one : TraceItem) → text_of (one ∷ []) ≡ item_text one

@@ -12,6 +12,5 @@ tells_whole text (Some known) now is = ap is_some is
 -- where the beginning of it was
 pub tells_front : (text : List ℕ) (before now : Option (List ℕ)) → Becomes (TakesFront text) before now → is_some now ≡ is_some before
 tells_front text None None becomes = refl
-tells_front text None (Some now) becomes = absurd becomes
-tells_front text (Some before) None becomes = absurd becomes
 tells_front text (Some before) (Some now) becomes = refl
+tells_front text before now becomes = absurd becomes

@@ -1,5 +1,5 @@
 //! How a terminal's commands come to the card.
-ghost use Rattle.std.specs.Prelude.{◌≡◌, IsTrue};
+ghost use Rattle.std.specs.Prelude.{IsTrue};
 ghost use Rattle.t0_link.specs.Carrying.{RoseBy, carried, tpdus_for};
 ghost use Rattle.run_steps.specs.Carriers.{Carries};
 ghost use Rattle.run_steps.specs.Ends.{Comes};

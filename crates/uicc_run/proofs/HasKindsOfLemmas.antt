@@ -1,5 +1,5 @@
 -- The boxes of a card that is handed back, and those of one that was opened.
-use Rattle.std.proofs.Common.{◌≡◌, ℕ, zero, suc, Bool, true, false, List, [], ◌∷◌, Option, Some, None, refl, sym, ap, ◌∙◌, subst, option_map, All, if◌then◌else◌, is_none, slice_index_or, slice_set}
+use Rattle.std.proofs.Common.{◌≡◌, ℕ, zero, suc, Bool, true, false, List, ◌∷◌, Option, Some, None, refl, sym, ap, ◌∙◌, subst, option_map, All, if◌then◌else◌, is_none, slice_index_or, slice_set}
 use Rattle.std.specs.List.{list_all}
 use Rattle.list_laws.proofs.CondLemmas.{mapped_Some}
 use Rattle.uicc_types.specs.declared.identifiers.Shelf.{Shelf}
@@ -31,11 +31,9 @@ woken_kinds rows boxes shelf = ap (option_map (λ (mind : AppletState). mind.kin
 
 -- the box that leaves is the only one that may be left out
 emptied : (boxes : List (Option AppletState)) (at : ℕ) → HasKindsOf (slice_set boxes at None) boxes
-emptied [] at shelf kind is = is
 emptied (box ∷ boxes) zero zero kind is = absurd (cc)
-emptied (box ∷ boxes) zero (suc shelf) kind is = is
-emptied (box ∷ boxes) (suc at) zero kind is = is
 emptied (box ∷ boxes) (suc at) (suc shelf) kind is = emptied boxes at shelf kind is
+emptied boxes at shelf kind is = is
 
 emptied_if : (gone : Bool) (boxes : List (Option AppletState)) (at : ℕ) → HasKindsOf (if gone then slice_set boxes at None else boxes) boxes
 emptied_if true boxes at = emptied boxes at

@@ -53,7 +53,7 @@ use Rattle.uicc_run.specs.Loading.{ComesToLoad, FailsToOpenFixed, IsFixedCard, I
 use Rattle.uicc_run.specs.Making.{ending_for_load, ending_for as ending_for_fault}
 use Rattle.uicc_run.specs.Playing.{Given, Leaves, first_machine}
 use Rattle.uicc_run.specs.declared.endings.Ending.{Ending}
-use Rattle.uicc_run.specs.declared.endings.Ending.TheVariants.{Usage, NoMemory, Section, MemoryFailed, NoCard, Played, Counted}
+use Rattle.uicc_run.specs.declared.endings.Ending.TheVariants.{NoMemory, Section, MemoryFailed, NoCard, Counted}
 use Rattle.uicc_run.specs.declared.endings.Task.TheVariants as task
 
 -- the handset of a long run begins with the card that was opened
@@ -247,8 +247,5 @@ load_completes given told start count card NoMemory leaves status fixed comes (i
 load_completes given told start count card (Counted lines counts) leaves status fixed comes (inl is) no_4 no_6 = inl is
 load_completes given told start count card (MemoryFailed when) leaves status fixed comes (inl is) no_4 no_6 = absurd (no_6 is)
 load_completes given told start count card (Section (script.BadLine number)) leaves status fixed comes (inl is) no_4 no_6 = absurd (never_refused given.boxes bare_card comes.0 card number fixed comes.1)
-load_completes given told start count card (Section (script.NoRoom number)) leaves status fixed comes (inl is) no_4 no_6 = absurd comes
-load_completes given told start count card (Section script.ReadFailed) leaves status fixed comes (inl is) no_4 no_6 = absurd comes
-load_completes given told start count card Usage leaves status fixed comes (inl is) no_4 no_6 = absurd comes
 load_completes given told start count card (NoCard why) leaves status fixed comes (inl is) no_4 no_6 = inr (inr (is, comes.untold))
-load_completes given told start count card (Played end) leaves status fixed comes (inl is) no_4 no_6 = absurd comes
+load_completes given told start count card other leaves status fixed comes (inl is) no_4 no_6 = absurd comes

@@ -53,20 +53,15 @@ same_card rules e = cc
 
 pub walks_section : (rules : Rules) (R : List ℕ → ScriptLine → Type 0) (found : LineList) (section : List ScriptLine) (card new : Option Persistent) → Each R found section → with_lines rules.cast card section ≡ Ok new → Walks rules R (Before card) found (Before new)
 walks_section rules R [] [] card new each is = ap Before (same_card rules is)
-walks_section rules R [] (line ∷ section) card new each is = absurd each
 walks_section rules R (None ∷ found) [] card new each is = absurd each
-walks_section rules R (Some bytes ∷ found) [] card new each is = absurd each
-walks_section rules R (None ∷ found) (line ∷ section) card new each is = absurd each
 walks_section rules R (Some bytes ∷ found) (line ∷ section) card new each is =
     let parts = splits rules.cast card new line section is in
     record { line = line; middle = Before parts.next; read = each.0; moves = parts.one; rest = walks_section rules R found section parts.next new each.1 parts.others }
+walks_section rules R found section card new each is = absurd each
 
 walks_played : (rules : Rules) (R : List ℕ → ScriptLine → Type 0) (found : LineList) (played : List ScriptLine) (card : Option Persistent) → Each R found played → AllPass rules.may played → Walks rules R (Behind card) found (Behind card)
 walks_played rules R [] [] card each pass = refl
-walks_played rules R [] (line ∷ played) card each pass = absurd each
 walks_played rules R (None ∷ found) [] card each pass = absurd each
-walks_played rules R (Some bytes ∷ found) [] card each pass = absurd each
-walks_played rules R (None ∷ found) (line ∷ played) card each pass = absurd each
 walks_played rules R (Some bytes ∷ found) (line ∷ played) card each pass = record {
   line = line;
   middle = Behind card;
@@ -74,6 +69,7 @@ walks_played rules R (Some bytes ∷ found) (line ∷ played) card each pass = r
   moves = (All-head (λ l. rules.may l ≡ true) line played pass, refl);
   rest = walks_played rules R found played card each.1 (All-tail (λ l. rules.may l ≡ true) line played pass);
 }
+walks_played rules R found played card each pass = absurd each
 
 pub walks_whole : (rules : Rules) (R : List ℕ → ScriptLine → Type 0) (found : LineList) (section played : List ScriptLine) (card new : Option Persistent) → Each R found (section ++ Start ∷ played) → with_lines rules.cast card section ≡ Ok new → AllPass rules.may played
     → Walks rules R (Before card) found (Behind new)
