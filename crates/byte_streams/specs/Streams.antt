@@ -1,5 +1,5 @@
 -- What a source and a sink count, and what a sink takes of a part that it does not take whole.
-use Rattle.std.specs.Prelude.{◌≡◌, ◌⊎◌, List, ℕ, ◌++◌, ⊥}
+use Rattle.std.specs.Prelude.{◌≡◌, ◌⊎◌, List, ℕ, ◌++◌}
 use Rattle.uicc_types.specs.Counts.{raised}
 use Rattle.uicc_types.specs.Told.{IsFront}
 
