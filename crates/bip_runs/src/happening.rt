@@ -1,6 +1,6 @@
 //! What happens to the terminal, and what is shown of it.
 ghost use Rattle.std.specs.Prelude.{◌≡◌, ◌∷◌, List, IsErr, OnOk, is_some};
-ghost use Rattle.uicc_types.specs.Counts.{CountsFailure};
+ghost use Rattle.byte_streams.specs.Streams.{CountsEach};
 ghost use Rattle.script_form.specs.Traces.{IsPut};
 ghost use Rattle.bip_channels.specs.Channels.{BipChannel, answered};
 ghost use Rattle.bip_channels.specs.Kept.{IsKept};
@@ -21,7 +21,7 @@ pub fn happen<W: Sink>(what: Happening<'_>, bip: &mut Bip, trace: &mut W) -> Res
     ensures shown { (history : List Occurrence) → IsKept (channels_after history) bip.old
         → IsPut (text_of (lines_of (occurrence_for what.entry) (channels_after history))) (W.taken trace.old)
         (W.taken trace.new) result }
-    ensures cause { CountsFailure (W.faults trace.old) (W.faults trace.new) (IsErr result) }
+    ensures cause { CountsEach (W.faults trace.old) (W.faults trace.new) (IsErr result) }
     ensures tells { is_some (W.taken trace.new) ≡ is_some (W.taken trace.old) }
 {
     match what {
@@ -44,7 +44,7 @@ fn command<W: Sink>(bytes: &Octets, bip: &mut Bip, trace: &mut W) -> Result<(), 
     ensures shown { (history : List Occurrence) → IsKept (channels_after history) bip.old
         → IsPut (text_of (command_lines bytes.now (answered bytes.now (channels_after history)).response))
         (W.taken trace.old) (W.taken trace.new) result }
-    ensures cause { CountsFailure (W.faults trace.old) (W.faults trace.new) (IsErr result) }
+    ensures cause { CountsEach (W.faults trace.old) (W.faults trace.new) (IsErr result) }
     ensures tells { is_some (W.taken trace.new) ≡ is_some (W.taken trace.old) }
 {
     let command = bytes.as_slice();
@@ -60,7 +60,7 @@ fn command<W: Sink>(bytes: &Octets, bip: &mut Bip, trace: &mut W) -> Result<(), 
 /// Writes the event that the card is told of, if there is one.
 fn tell<W: Sink>(event: Option<Octets>, trace: &mut W) -> Result<(), Failed>
     ensures shown { IsPut (text_of (event_lines event)) (W.taken trace.old) (W.taken trace.new) result }
-    ensures cause { CountsFailure (W.faults trace.old) (W.faults trace.new) (IsErr result) }
+    ensures cause { CountsEach (W.faults trace.old) (W.faults trace.new) (IsErr result) }
     ensures tells { is_some (W.taken trace.new) ≡ is_some (W.taken trace.old) }
 {
     match event {

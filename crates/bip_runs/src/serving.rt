@@ -1,6 +1,5 @@
 //! The lines of a script, read one by one, each carried out as soon as its end was read.
 ghost use Rattle.std.specs.Prelude.{◌≡◌, ◌≢◌, ◌<◌, ◌+◌, List, ℕ, Ok, Err, Option, OnOk, OnErr, Some, IfOk, is_some};
-ghost use Rattle.uicc_types.specs.Counts.{CountsFailure};
 ghost use Rattle.byte_streams.specs.Lines.{LineList};
 ghost use Rattle.byte_streams.specs.Reading.{IsTaken, IsWithin};
 ghost use Rattle.byte_streams.specs.Streams.{CountsEach};
@@ -34,7 +33,7 @@ pub fn serve<R: Source, W: Sink>(
     ensures taken { (text : List ℕ) → R.left source.old ≡ Some text
         → IsTaken (MOST_BYTES + 1) text (R.left source.new) }
     ensures source_cause { CountsEach (R.faults source.old) (R.faults source.new) (result ≡ Ok PlayEnd.ReadFailed) }
-    ensures sink_cause { CountsFailure (W.faults trace.old) (W.faults trace.new) (result ≡ Ok PlayEnd.SinkFailed) }
+    ensures sink_cause { CountsEach (W.faults trace.old) (W.faults trace.new) (result ≡ Ok PlayEnd.SinkFailed) }
     ensures tells { is_some (W.taken trace.new) ≡ is_some (W.taken trace.old) }
     ensures no_reset { result ≢ Ok PlayEnd.ResetFailed }
 {
@@ -55,7 +54,7 @@ fn serve_script<R: Source, W: Sink>(bip: &mut Bip, source: &mut R, trace: &mut W
     ensures taken { (text : List ℕ) → R.left source.old ≡ Some text
         → IsTaken (MOST_BYTES + 1) text (R.left source.new) }
     ensures source_cause { CountsEach (R.faults source.old) (R.faults source.new) (result ≡ PlayEnd.ReadFailed) }
-    ensures sink_cause { CountsFailure (W.faults trace.old) (W.faults trace.new) (result ≡ PlayEnd.SinkFailed) }
+    ensures sink_cause { CountsEach (W.faults trace.old) (W.faults trace.new) (result ≡ PlayEnd.SinkFailed) }
     ensures tells { is_some (W.taken trace.new) ≡ is_some (W.taken trace.old) }
     ensures no_reset { result ≢ PlayEnd.ResetFailed }
 {
@@ -76,7 +75,7 @@ fn serve_lines<R: Source, W: Sink>(
     ensures within { (text : List ℕ) → IsWithin text (reading script.old) (R.left source.old)
         → IsWithin text (reading script.new) (R.left source.new) }
     ensures source_cause { CountsEach (R.faults source.old) (R.faults source.new) (result ≡ PlayEnd.ReadFailed) }
-    ensures sink_cause { CountsFailure (W.faults trace.old) (W.faults trace.new) (result ≡ PlayEnd.SinkFailed) }
+    ensures sink_cause { CountsEach (W.faults trace.old) (W.faults trace.new) (result ≡ PlayEnd.SinkFailed) }
     ensures tells { is_some (W.taken trace.new) ≡ is_some (W.taken trace.old) }
     ensures no_reset { result ≢ PlayEnd.ResetFailed }
 {
@@ -104,7 +103,7 @@ fn serve_line<R: Source, W: Sink>(
     ensures within { (text : List ℕ) → IsWithin text (reading script.old) (R.left source.old)
         → IsWithin text (reading script.new) (R.left source.new) }
     ensures source_cause { CountsEach (R.faults source.old) (R.faults source.new) (result ≡ Err PlayEnd.ReadFailed) }
-    ensures sink_cause { CountsFailure (W.faults trace.old) (W.faults trace.new) (result ≡ Err PlayEnd.SinkFailed) }
+    ensures sink_cause { CountsEach (W.faults trace.old) (W.faults trace.new) (result ≡ Err PlayEnd.SinkFailed) }
     ensures tells { is_some (W.taken trace.new) ≡ is_some (W.taken trace.old) }
     ensures no_reset { result ≢ Err PlayEnd.ResetFailed }
     ensures nearer { OnOk result (room_of script.new < room_of script.old) }

@@ -1,10 +1,9 @@
 //! A sink into memory.
 ghost use Rattle.std.specs.Prelude.{◌≡◌, ◌≤◌, ◌<◌, ◌+◌, ◌↔◌, ◌⊎◌, [], Some, length, is_err, IfOk, IsErr, OnOk, OnErr};
 ghost use Rattle.std.specs.Io.KnownBytes.{append_known};
-ghost use Rattle.uicc_types.specs.Counts.{CountsFailure};
 ghost use Rattle.uicc_types.specs.Told.{Becomes};
 ghost use Rattle.byte_streams.specs.Planned.{FailsNext, no_calls, with_call};
-ghost use Rattle.byte_streams.specs.Streams.{TakesFront};
+ghost use Rattle.byte_streams.specs.Streams.{CountsEach, TakesFront};
 
 use crate::planned::is_planned;
 use crate::streams::{Failed, Sink};
@@ -79,7 +78,7 @@ impl Sink for ListSink {
     fn put(&mut self, part: &[u8]) -> Result<(), Failed>
         ensures ok { OnOk result (Some self.new.taken ≡ append_known (Some self.old.taken) part.now) }
         ensures err { OnErr result (Becomes (TakesFront part.now) (Some self.old.taken) (Some self.new.taken)) }
-        ensures cause { CountsFailure self.old.calls.failed self.new.calls.failed (IsErr result) }
+        ensures cause { CountsEach self.old.calls.failed self.new.calls.failed (IsErr result) }
         ensures fails { IsErr result ↔ (FailsNext self.old.calls
             ⊎ (self.old.room < length self.old.taken + length part.now)) }
         ensures none_taken { OnErr result (self.new.taken ≡ self.old.taken) }

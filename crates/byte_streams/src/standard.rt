@@ -67,10 +67,11 @@ pub struct OutputSink<O> {
 }
 
 impl<O: Write> OutputSink<O> {
-    ghost use Rattle.std.specs.Prelude.{◌≡◌, ◌≤◌, if◌then◌else◌, is_err, IsErr, OnOk};
+    ghost use Rattle.std.specs.Prelude.{◌≡◌, if◌then◌else◌, is_err, IsErr, OnOk};
     ghost use Rattle.std.specs.Io.KnownBytes.{Appends, Keeps};
-    ghost use Rattle.uicc_types.specs.Counts.{CountsFailure, Rose, raised};
+    ghost use Rattle.uicc_types.specs.Counts.{raised};
     ghost use Rattle.byte_streams.specs.Standard.{sink_faults, writer_of};
+    ghost use Rattle.byte_streams.specs.Streams.{CountsEach};
 
     /// A sink that writes to `output`.
     pub fn new(output: O) -> Self
@@ -85,7 +86,7 @@ impl<O: Write> OutputSink<O> {
     fn put_whole(&mut self, part: &[u8]) -> Result<(), Failed>
         ensures written { OnOk result (Appends (O.contents (writer_of self.old))
             (O.contents (writer_of self.new)) part.now) }
-        ensures cause { CountsFailure (sink_faults self.old) (sink_faults self.new) (IsErr result) }
+        ensures cause { CountsEach (sink_faults self.old) (sink_faults self.new) (IsErr result) }
         ensures faults { sink_faults self.new ≡ (if is_err result then raised
             (sink_faults self.old) else sink_faults self.old) }
     {
@@ -99,7 +100,7 @@ impl<O: Write> OutputSink<O> {
     #[inline(always)]
     fn flush(&mut self) -> Result<(), Failed>
         ensures kept { Keeps (O.contents (writer_of self.old)) (O.contents (writer_of self.new)) }
-        ensures cause { CountsFailure (sink_faults self.old) (sink_faults self.new) (IsErr result) }
+        ensures cause { CountsEach (sink_faults self.old) (sink_faults self.new) (IsErr result) }
         ensures faults { sink_faults self.new ≡ (if is_err result then raised
             (sink_faults self.old) else sink_faults self.old) }
     {
@@ -113,8 +114,6 @@ impl<O: Write> OutputSink<O> {
     #[inline(never)]
     fn counted(&mut self) -> Failed
         ensures faults { sink_faults self.new ≡ raised (sink_faults self.old) }
-        ensures kept { sink_faults self.old ≤ sink_faults self.new }
-        ensures rose { Rose (sink_faults self.old) (sink_faults self.new) }
         ensures writer { writer_of self.new ≡ writer_of self.old }
     {
         self.faults = self.faults.saturating_add(1);
@@ -133,8 +132,9 @@ fn is_interrupted(error: &io::Error) -> bool
 impl<O: Write> Sink for OutputSink<O> {
     ghost use Rattle.std.specs.Prelude.{◌≡◌, None, if◌then◌else◌, is_err, IsErr, OnOk};
     ghost use Rattle.std.specs.Io.KnownBytes.{Appends};
-    ghost use Rattle.uicc_types.specs.Counts.{CountsFailure, raised};
+    ghost use Rattle.uicc_types.specs.Counts.{raised};
     ghost use Rattle.byte_streams.specs.Standard.{sink_faults, writer_of};
+    ghost use Rattle.byte_streams.specs.Streams.{CountsEach};
 
     ghost faults = { sink_faults };
 
@@ -142,7 +142,7 @@ impl<O: Write> Sink for OutputSink<O> {
 
     #[inline(always)]
     fn put(&mut self, part: &[u8]) -> Result<(), Failed>
-        ensures cause { CountsFailure (sink_faults self.old) (sink_faults self.new) (IsErr result) }
+        ensures cause { CountsEach (sink_faults self.old) (sink_faults self.new) (IsErr result) }
 
         // The writer was given the whole part.
         ensures written { OnOk result (Appends (O.contents (writer_of self.old))

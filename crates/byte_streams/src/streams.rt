@@ -1,7 +1,6 @@
 //! What every source and every sink keeps.
 ghost use Rattle.std.specs.Prelude.{◌≡◌, ◌≤◌, ◌<◌, ◌↔◌, ℕ, List, [], Option, length, take, IfOk, IfSome, IsErr, OnOk, OnErr};
 ghost use Rattle.std.specs.Io.KnownBytes.{append_known, prepend_known};
-ghost use Rattle.uicc_types.specs.Counts.{CountsFailure};
 ghost use Rattle.uicc_types.specs.Told.{Becomes};
 ghost use Rattle.byte_streams.specs.Streams.{CountsEach, TakesFront};
 
@@ -30,7 +29,7 @@ pub trait Source {
 
 /// Where bytes go.
 pub trait Sink {
-    /// How often the sink has failed. The count never falls, and stands still at 2^64 - 1.
+    /// How often the sink has failed: each failure counts once, and nothing else does. The count stands still at 2^64 - 1.
     ghost faults: { Self → ℕ };
 
     /// The bytes that were taken, where the sink tells them.
@@ -40,5 +39,5 @@ pub trait Sink {
     fn put(&mut self, part: &[u8]) -> Result<(), Failed>
         ensures ok { OnOk result (taken self.new ≡ append_known (taken self.old) part.now) }
         ensures err { OnErr result (Becomes (TakesFront part.now) (taken self.old) (taken self.new)) }
-        ensures cause { CountsFailure (faults self.old) (faults self.new) (IsErr result) };
+        ensures cause { CountsEach (faults self.old) (faults self.new) (IsErr result) };
 }

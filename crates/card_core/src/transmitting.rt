@@ -110,7 +110,8 @@ impl<S: Store, B: Applet> CardOver<S, B> {
     /// comes to, it leaves as it was what isn't its own to move; after what was due, a card that begins anew takes it.
     ///
     /// Over a store that tells its bytes, an answer other than `6581` comes after one commit for each that the command has, and
-    /// no other, and the bytes are those after its changes, in order. Where the memory fails or power is lost, the state that it
+    /// no other, and the bytes are those after its changes, in order; so one that commits nothing leaves them, by
+    /// `card_laws::answers_pass_changes`. Where the memory fails or power is lost, the state that it
     /// holds and the bytes are those after the commits that were acknowledged, or after one more; a fault that comes while the place
     /// of a file that is made or grows is prepared leaves any bytes there. Over any store how often it commits is told as its answer
     /// is, but for a command on PINs.

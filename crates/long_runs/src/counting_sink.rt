@@ -1,9 +1,8 @@
 //! A sink that keeps of a trace what is counted in it, and nothing else.
 ghost use Rattle.std.specs.Prelude.{◌≡◌, [], Some, IsErr, OnErr, OnOk};
 ghost use Rattle.std.specs.Io.KnownBytes.{append_known};
-ghost use Rattle.uicc_types.specs.Counts.{CountsFailure};
 ghost use Rattle.uicc_types.specs.Told.{Becomes};
-ghost use Rattle.byte_streams.specs.Streams.{TakesFront};
+ghost use Rattle.byte_streams.specs.Streams.{CountsEach, TakesFront};
 ghost use Rattle.long_runs.specs.Walks.{counted_in};
 
 use crate::counts::Counts;
@@ -58,7 +57,7 @@ impl Sink for CountingSink {
     fn put(&mut self, part: &[u8]) -> Result<(), Failed>
         ensures ok { OnOk result (Some self.new ≡ append_known (Some self.old) part.now) }
         ensures err { OnErr result (Becomes (TakesFront part.now) (Some self.old) (Some self.new)) }
-        ensures cause { CountsFailure 0 0 (IsErr result) }
+        ensures cause { CountsEach 0 0 (IsErr result) }
     {
         self.walk.follow(part);
         self.text = self.text.then(&Part { bytes: part });

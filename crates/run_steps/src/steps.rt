@@ -1,10 +1,10 @@
 //! What is done to the card, and what the trace shows of it.
 ghost use Rattle.std.specs.Prelude.{◌≡◌, ◌≤◌, Err, IsErr, OnOk, OnErr, is_some, length};
 ghost use Rattle.std.specs.Io.KnownBytes.{append_known};
-ghost use Rattle.uicc_types.specs.Counts.{CountsFailure, raised};
+ghost use Rattle.uicc_types.specs.Counts.{raised};
 ghost use Rattle.uicc_types.specs.Told.{Becomes};
 ghost use Rattle.uicc_types.specs.declared.byte_lists.TheConstants.{LONGEST_COMMAND};
-ghost use Rattle.byte_streams.specs.Streams.{TakesFront};
+ghost use Rattle.byte_streams.specs.Streams.{CountsEach, TakesFront};
 ghost use Rattle.script_form.specs.Traces.{trace_text};
 ghost use Rattle.t0_link.specs.Carrying.{tpdus_for};
 ghost use Rattle.run_steps.specs.Carriers.{Carries};
@@ -92,7 +92,7 @@ pub(crate) fn write_reply<W: Sink>(
         (item_text (seen outcome answer.now))) }
     ensures err { OnErr result (Becomes (TakesFront (item_text (seen outcome answer.now)))
         (W.taken trace.old) (W.taken trace.new)) }
-    ensures cause { CountsFailure (W.faults trace.old) (W.faults trace.new) (IsErr result) }
+    ensures cause { CountsEach (W.faults trace.old) (W.faults trace.new) (IsErr result) }
     ensures tells { is_some (W.taken trace.new) ≡ is_some (W.taken trace.old) }
 {
     match outcome {
@@ -148,7 +148,7 @@ fn reset_line(outcome: Result<Restarted, MemoryFailed>) -> TraceLine
 fn write_step<W: Sink>(trace: &mut W, line: &TraceLine) -> Result<(), Failed>
     ensures ok { OnOk result (W.taken trace.new ≡ append_known (W.taken trace.old) (trace_text line.now)) }
     ensures err { OnErr result (Becomes (TakesFront (trace_text line.now)) (W.taken trace.old) (W.taken trace.new)) }
-    ensures cause { CountsFailure (W.faults trace.old) (W.faults trace.new) (IsErr result) }
+    ensures cause { CountsEach (W.faults trace.old) (W.faults trace.new) (IsErr result) }
     ensures tells { is_some (W.taken trace.new) ≡ is_some (W.taken trace.old) }
 {
     match write_trace(trace, line) {

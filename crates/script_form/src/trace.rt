@@ -3,9 +3,8 @@ ghost use Rattle.std.specs.Prelude.{◌≡◌, ◌+◌, ◌*◌, ◌≤◌, ◌+
 ghost use Rattle.std.specs.Char.{to_ascii_uppercase};
 ghost use Rattle.std.specs.Io.KnownBytes.{append_known};
 ghost use Rattle.hex.specs.Hex.{encode_lower, encode_upper};
-ghost use Rattle.uicc_types.specs.Counts.{CountsFailure};
 ghost use Rattle.uicc_types.specs.Told.{Becomes};
-ghost use Rattle.byte_streams.specs.Streams.{TakesFront};
+ghost use Rattle.byte_streams.specs.Streams.{CountsEach, TakesFront};
 ghost use Rattle.script_form.specs.Traces.{IsPut, trace_text};
 ghost use Rattle.script_form.specs.declared.trace.TraceLine.TheVariants as line;
 
@@ -69,7 +68,7 @@ pub fn write_trace<W: Sink>(sink: &mut W, line: &TraceLine) -> Result<(), Failed
     ensures ok { OnOk result (W.taken sink.new ≡ append_known (W.taken sink.old) (trace_text line.now)) }
     ensures err { OnErr result
         (Becomes (TakesFront (trace_text line.now)) (W.taken sink.old) (W.taken sink.new)) }
-    ensures cause { CountsFailure (W.faults sink.old) (W.faults sink.new) (IsErr result) }
+    ensures cause { CountsEach (W.faults sink.old) (W.faults sink.new) (IsErr result) }
 {
     match line {
         TraceLine::Command(apdu) => write_command(sink, apdu.as_slice()),
@@ -106,7 +105,7 @@ pub fn write_command<W: Sink>(sink: &mut W, apdu: &[u8]) -> Result<(), Failed>
     ensures ok { OnOk result (W.taken sink.new ≡ append_known (W.taken sink.old) (trace_text (line.Command apdu.now))) }
     ensures err { OnErr result
         (Becomes (TakesFront (trace_text (line.Command apdu.now))) (W.taken sink.old) (W.taken sink.new)) }
-    ensures cause { CountsFailure (W.faults sink.old) (W.faults sink.new) (IsErr result) }
+    ensures cause { CountsEach (W.faults sink.old) (W.faults sink.new) (IsErr result) }
 {
     // Most lines show few bytes, and are put together in a short buffer, since all of a buffer is filled with zeros before and raised after.
     match apdu.len() {
@@ -126,7 +125,7 @@ fn put_command<const N: usize, W: Sink>(sink: &mut W, apdu: &[u8]) -> Result<(),
     requires fits { 2 * length apdu.now + 3 ≤ N }
     requires size { N ≤ LONGEST }
     ensures put { IsPut (trace_text (line.Command apdu.now)) (W.taken sink.old) (W.taken sink.new) result }
-    ensures cause { CountsFailure (W.faults sink.old) (W.faults sink.new) (IsErr result) }
+    ensures cause { CountsEach (W.faults sink.old) (W.faults sink.new) (IsErr result) }
 {
     let mut text = ArrayVec::from([0; N]);
     // The digits of the header, whose length is known here, are written without a loop.
@@ -143,7 +142,7 @@ pub fn write_answer<W: Sink>(sink: &mut W, answer: &Answer) -> Result<(), Failed
         (trace_text (line.Answer answer.now))) }
     ensures err { OnErr result
         (Becomes (TakesFront (trace_text (line.Answer answer.now))) (W.taken sink.old) (W.taken sink.new)) }
-    ensures cause { CountsFailure (W.faults sink.old) (W.faults sink.new) (IsErr result) }
+    ensures cause { CountsEach (W.faults sink.old) (W.faults sink.new) (IsErr result) }
 {
     let body = answer.body.as_slice();
     match body.len() {
@@ -165,7 +164,7 @@ fn put_answer<const N: usize, W: Sink>(
     requires size { N ≤ LONGEST }
     ensures put { IsPut (trace_text (line.Answer (record { body = body.now; status = status })))
         (W.taken sink.old) (W.taken sink.new) result }
-    ensures cause { CountsFailure (W.faults sink.old) (W.faults sink.new) (IsErr result) }
+    ensures cause { CountsEach (W.faults sink.old) (W.faults sink.new) (IsErr result) }
 {
     let mut text = ArrayVec::from([0; N]);
     let size = fill_line(text.as_mut_slice(), b'<', body, &status.0.to_be_bytes());
@@ -237,7 +236,7 @@ pub fn write_note<W: Sink>(sink: &mut W, note: &Note) -> Result<(), Failed>
     ensures ok { OnOk result (W.taken sink.new ≡ append_known (W.taken sink.old) (trace_text (line.Note note.now))) }
     ensures err { OnErr result
         (Becomes (TakesFront (trace_text (line.Note note.now))) (W.taken sink.old) (W.taken sink.new)) }
-    ensures cause { CountsFailure (W.faults sink.old) (W.faults sink.new) (IsErr result) }
+    ensures cause { CountsEach (W.faults sink.old) (W.faults sink.new) (IsErr result) }
 {
     let mut text = ArrayVec::<u8, LONGEST_NOTE>::new();
     put_note(&mut text, note);
@@ -254,7 +253,7 @@ const FEW: usize = 16;
 fn write_bytes<W: Sink>(sink: &mut W, words: &[u8], bytes: &[u8]) -> Result<(), Failed>
     requires fits { length words.now + 2 * length bytes.now + 1 ≤ LONGEST }
     ensures put { IsPut (words.now ++ encode_upper bytes.now ++ 10 ∷ []) (W.taken sink.old) (W.taken sink.new) result }
-    ensures cause { CountsFailure (W.faults sink.old) (W.faults sink.new) (IsErr result) }
+    ensures cause { CountsEach (W.faults sink.old) (W.faults sink.new) (IsErr result) }
 {
     let mut text = ArrayVec::<u8, LONGEST>::new();
     put_text(&mut text, words);
@@ -268,7 +267,7 @@ fn write_bytes<W: Sink>(sink: &mut W, words: &[u8], bytes: &[u8]) -> Result<(), 
 fn write_number<W: Sink>(sink: &mut W, words: &[u8], number: u64) -> Result<(), Failed>
     requires fits { length words.now + 21 ≤ LONGEST }
     ensures put { IsPut (words.now ++ decimal number ++ 10 ∷ []) (W.taken sink.old) (W.taken sink.new) result }
-    ensures cause { CountsFailure (W.faults sink.old) (W.faults sink.new) (IsErr result) }
+    ensures cause { CountsEach (W.faults sink.old) (W.faults sink.new) (IsErr result) }
 {
     let mut text = ArrayVec::<u8, LONGEST>::new();
     put_count(&mut text, words, number);
@@ -289,7 +288,7 @@ fn write_counts<W: Sink>(
 ) -> Result<(), Failed>
     ensures put { IsPut (trace_text (line.Counts lines commands fetches responses envelopes busy))
         (W.taken sink.old) (W.taken sink.new) result }
-    ensures cause { CountsFailure (W.faults sink.old) (W.faults sink.new) (IsErr result) }
+    ensures cause { CountsEach (W.faults sink.old) (W.faults sink.new) (IsErr result) }
 {
     let mut text = ArrayVec::<u8, LONGEST>::new();
     put_count(&mut text, b"lines ", lines);

@@ -1,7 +1,7 @@
 -- Runs over devices that are let go, and runs that were not begun.
-use Rattle.std.proofs.Common.{◌≡◌, ◌≤◌, ◌⊎◌, ℕ, ◌+◌, Bool, true, false, List, [], Option, Some, None, refl, sym, ap, ◌∙◌, inl, inr, arith, subst}
-use Rattle.uicc_types.specs.Counts.{CountsFailure, Rose}
+use Rattle.std.proofs.Common.{◌≡◌, ◌≢◌, ◌≤◌, ◌⊎◌, ℕ, ◌+◌, Bool, true, false, List, [], Option, Some, None, refl, sym, ap, ◌∙◌, inl, inr, arith, subst}
 use Rattle.byte_streams.proofs.ReadingLemmas.{IsTaken-none}
+use Rattle.byte_streams.specs.Streams.{CountsEach}
 use Rattle.byte_streams.specs.declared.limits.TheConstants.{MOST_BYTES}
 use Rattle.script_form.specs.Reads.{IsOnly}
 use Rattle.eeprom_model.specs.Bench.{new_bench}
@@ -152,7 +152,7 @@ module _ {ScriptIsSame : Type 0} (words : List (List ℕ)) (status : ℕ) (over 
 
 -- there was no memory for one
 pub answers_unmade : (ScriptIsSame : Type 0) (words : List (List ℕ)) (status : ℕ) (over : World) (taken : Option (List ℕ)) (sink : ℕ) → ScriptIsSame → AsksForNone words → AskForRun words
-    → Closes NoMemory over.taken taken status → (status ≡ status_for NoMemory) ⊎ (status ≡ 4) → (over.sink ≤ sink) × (status ≡ 4 → (status_for NoMemory ≡ 4) ⊎ Rose over.sink sink)
+    → Closes NoMemory over.taken taken status → (status ≡ status_for NoMemory) ⊎ (status ≡ 4) → CountsEach over.sink sink ((status ≡ 4) × (status_for NoMemory ≢ 4))
     → AnswersAsAsked words status (without over) (record (boxless over) { taken = taken; sink = sink }) ScriptIsSame
 answers_unmade ScriptIsSame words status over taken sink script others asks closes its cause =
     answers_by_none words status over taken sink
@@ -161,7 +161,7 @@ answers_unmade ScriptIsSame words status over taken sink script others asks clos
 
 -- the words are in no form
 pub answers_refused : (ScriptIsSame : Type 0) (words : List (List ℕ)) (status : ℕ) (over : World) (taken : Option (List ℕ)) (sink : ℕ) → ScriptIsSame → AsksForNone words → (AskForRun words → ⊥)
-    → Closes Usage over.taken taken status → (status ≡ status_for Usage) ⊎ (status ≡ 4) → (over.sink ≤ sink) × (status ≡ 4 → (status_for Usage ≡ 4) ⊎ Rose over.sink sink)
+    → Closes Usage over.taken taken status → (status ≡ status_for Usage) ⊎ (status ≡ 4) → CountsEach over.sink sink ((status ≡ 4) × (status_for Usage ≢ 4))
     → AnswersAsAsked words status (without over) (record (boxless over) { taken = taken; sink = sink }) ScriptIsSame
 answers_refused ScriptIsSame words status over taken sink script others none closes its cause =
     answers_by_none words status over taken sink
@@ -175,7 +175,7 @@ shows_low page before taken status (inl whole) = inl whole.0
 shows_low page before taken status (inr broken) = inr broken.0
 
 pub answers_page : (ScriptIsSame : Type 0) (words : List (List ℕ)) (page : Page) (status : ℕ) (over : World) (taken : Option (List ℕ)) (sink : ℕ) → ScriptIsSame → IsOnly (AsksFor words) page
-    → Shows page over.taken taken status → CountsFailure over.sink sink (status ≡ 4) → AnswersAsAsked words status (without over) (record (boxless over) { taken = taken; sink = sink }) ScriptIsSame
+    → Shows page over.taken taken status → CountsEach over.sink sink (status ≡ 4) → AnswersAsAsked words status (without over) (record (boxless over) { taken = taken; sink = sink }) ScriptIsSame
 answers_page ScriptIsSame words page status over taken sink script is shows cause = record {
   page = record { page = λ other asks. subst (λ p. Shows p over.taken taken status) (sym (is.only other asks)) shows; unread = λ other asks. script };
   script = λ others. absurd (others page is.so);

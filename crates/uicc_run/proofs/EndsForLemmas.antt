@@ -1,6 +1,6 @@
 -- A run whose card was open ends as its lines do.
 use Rattle.std.proofs.Common.{◌≡◌, ℕ, Result, Ok, Err, refl, sym, ap, subst, arith, inl, is_some, IsErr}
-use Rattle.uicc_types.specs.Counts.{CountsFailure, Meter, Rose}
+use Rattle.uicc_types.specs.Counts.{Meter, Rose}
 use Rattle.byte_streams.specs.Streams.{CountsEach}
 use Rattle.script_reader.specs.declared.behind.PlayEnd.{PlayEnd}
 use Rattle.script_reader.specs.declared.behind.PlayEnd.TheVariants as play
@@ -27,11 +27,11 @@ for_its_memory other is = absurd (cc)
 same_end : (end other : PlayEnd) → Played end ≡ Played other → end ≡ other
 same_end end other is = cc is
 
-pub ends_played : (end : PlayEnd) (before after : World) (TraceIsSame BoxesAreSame : Type 0) → CountsEach before.source after.source (end ≡ play.ReadFailed) → CountsFailure before.sink after.sink (end ≡ play.SinkFailed)
+pub ends_played : (end : PlayEnd) (before after : World) (TraceIsSame BoxesAreSame : Type 0) → CountsEach before.source after.source (end ≡ play.ReadFailed) → CountsEach before.sink after.sink (end ≡ play.SinkFailed)
     → (end ≡ play.ResetFailed → Rose before.meter.faults after.meter.faults) → is_some after.taken ≡ is_some before.taken → EndsFor (Played end) before after TraceIsSame ⊥ BoxesAreSame
 ends_played end before after TraceIsSame BoxesAreSame source sink memory tells = record {
   source_cause = record { failed = λ three. source.failed (for_its_source end three); no_failure = λ other. source.no_failure (λ is. other (ap (λ e. status_for (Played e)) is)) };
-  sink_cause = record { kept = sink.kept; rose = λ four. sink.rose (for_its_sink end four) };
+  sink_cause = record { failed = λ four. sink.failed (for_its_sink end four); no_failure = λ other. sink.no_failure (λ is. other (ap (λ e. status_for (Played e)) is)) };
   memory_cause = λ six. inl (memory (for_its_memory end six));
   reset_cause = λ reset. memory (same_end end play.ResetFailed reset);
   tells = tells;
@@ -45,7 +45,7 @@ pub ends_unbegun : {TraceIsSame MemoryIsSame BoxesAreSame : Type 0} → (ending 
     → EndsFor ending world world TraceIsSame MemoryIsSame BoxesAreSame
 ends_unbegun ending world not_3 not_4 not_6 shown memory boxes = record {
   source_cause = record { failed = λ three. absurd (not_3 three); no_failure = λ other. refl };
-  sink_cause = record { kept = omega arith; rose = λ four. absurd (not_4 four) };
+  sink_cause = record { failed = λ four. absurd (not_4 four); no_failure = λ other. refl };
   memory_cause = λ six. absurd (not_6 six);
   reset_cause = λ is. absurd (not_6 (ap status_for is));
   tells = refl;

@@ -1,9 +1,10 @@
 -- Each status comes of one ending: the others are ruled out by its number or by sound devices, so that the script tells which it is.
-use Rattle.std.proofs.Common.{◌≡◌, ◌⊎◌, ◌≤◌, ◌+◌, ℕ, Bool, true, false, List, Option, Some, arith, refl, sym, ap, ◌∙◌, subst, inl, inr}
+use Rattle.std.proofs.Common.{◌≡◌, ◌≢◌, ◌⊎◌, ◌≤◌, ◌+◌, ℕ, Bool, true, false, List, Option, Some, arith, refl, sym, ap, ◌∙◌, subst, inl, inr}
 use Rattle.uicc_types.specs.Counts.{Rose}
 use Rattle.byte_streams.proofs.ReadingLemmas.{IsTaken-none}
-use Rattle.byte_streams.proofs.StreamsLemmas.{once, raised_rose}
+use Rattle.byte_streams.proofs.StreamsLemmas.{once, once_at_last, raised_rose}
 use Rattle.byte_streams.specs.Reading.{IsTaken}
+use Rattle.byte_streams.specs.Streams.{CountsEach}
 use Rattle.byte_streams.specs.declared.limits.TheConstants.{MOST_BYTES}
 use Rattle.script_form.specs.Reads.{IsOnly}
 use Rattle.command_line.specs.Model.{AskForRun, IsRequest}
@@ -29,7 +30,7 @@ use Rattle.uicc_run.proofs.LoadingLemmas.{load_completes}
 use Rattle.uicc_run.proofs.OpeningLemmas.{quiet_still}
 use Rattle.uicc_run.proofs.ScriptsLemmas.{Verdict, at_most_8, bad_stops, completes, eight_is_early, eight_is_full, five_is, full_stops, good_ends, not_usage, one_is, own_is, refuses, seven_refuses, seven_starts, six_shows, stops_bad, two_is_bad, verdict, zero_is_good, zero_reads_out}
 use Rattle.uicc_run.proofs.TellsNextLemmas.{closes_tells}
-use Rattle.uicc_run.proofs.TerminalsLemmas.{asks_for_run, rose_on, serves_to_end, status_low}
+use Rattle.uicc_run.proofs.TerminalsLemmas.{asks_for_run, serves_to_end, status_low}
 
 module _ (words : List (List ℕ)) (status : ℕ) (before after : World) (ending : Ending) (put : Option (List ℕ))
     (closes : Closes ending put after.taken status) (is_its : (status ≡ status_for ending) ⊎ (status ≡ 4))
@@ -43,7 +44,7 @@ module _ (words : List (List ℕ)) (status : ℕ) (before after : World) (ending
 
   sound_lines : (given : Given) (told : Bool) → RunsFrom given told words before → AskForRun words → IsUndisturbed (seen status before after) → Verdict given told status after.left after.taken
   sound_lines given told from asks sound =
-      lines_of given told from (λ one. usage.usage_only one asks) (λ three. sound.source_sound (raised_rose _ _ (causes.source_failed.failed three))) (λ four. sound.sink_sound (causes.sink_failed.rose four)) sound.memory_sound
+      lines_of given told from (λ one. usage.usage_only one asks) (λ three. sound.source_sound (raised_rose _ _ (causes.source_failed.failed three))) (λ four. sound.sink_sound (raised_rose _ _ (causes.sink_failed.failed four))) sound.memory_sound
 
   by_script : (given : Given) → RunsFrom given false words before → EndsByScript given words (seen status before after)
   by_script given from = record {
@@ -79,7 +80,7 @@ module _ (words : List (List ℕ)) (status : ℕ) (before after : World) (ending
     load = record {
       load_complete = λ given told start count card from sound fixed.
           let loaded = loads given told start count from in
-          load_completes given told start count card ending loaded.0 status fixed loaded.1 is_its (λ four. sound.sink_sound (causes.sink_failed.rose four)) sound.memory_sound;
+          load_completes given told start count card ending loaded.0 status fixed loaded.1 is_its (λ four. sound.sink_sound (raised_rose _ _ (causes.sink_failed.failed four))) sound.memory_sound;
     };
     bip = channels;
     causes = causes;
@@ -90,9 +91,6 @@ module _ (words : List (List ℕ)) (status : ℕ) (before after : World) (ending
 or_same : {Same Other Holds : Type 0} → Same ⊎ Holds → (Same → Other) → Other ⊎ Holds
 or_same (inl so) other = inl (other so)
 or_same (inr holds) other = inr holds
-
-rose_before : (old middle new : ℕ) → old ≤ middle → Rose middle new → Rose old new
-rose_before old middle new more rose = omega (arith, rose, more)
 
 one_is_early : (ending : Ending) → ending ≡ Usage → IsEarly ending
 one_is_early ending is = subst IsEarly (sym is) tt
@@ -188,7 +186,7 @@ module _ {ScriptIsSame TraceIsSame StoreIsSame MemoryIsSame BoxesAreSame : Type 
 -- and then the last line
 module _ {ScriptIsSame TraceIsSame MemoryIsSame BoxesAreSame : Type 0} (words : List (List ℕ)) (ending : Ending) (status : ℕ) (before put : World) (taken : Option (List ℕ)) (sink : ℕ)
     (out : ComesFor words ending before put ScriptIsSame TraceIsSame MemoryIsSame BoxesAreSame) (unput : TraceIsSame → put.taken ≡ before.taken)
-    (closes : Closes ending put.taken taken status) (its : (status ≡ status_for ending) ⊎ (status ≡ 4)) (cause : (put.sink ≤ sink) × (status ≡ 4 → (status_for ending ≡ 4) ⊎ Rose put.sink sink)) where
+    (closes : Closes ending put.taken taken status) (its : (status ≡ status_for ending) ⊎ (status ≡ 4)) (cause : CountsEach put.sink sink ((status ≡ 4) × (status_for ending ≢ 4))) where
   abbrev after : World
   after = record put { taken = taken; sink = sink }
 
@@ -199,10 +197,7 @@ module _ {ScriptIsSame TraceIsSame MemoryIsSame BoxesAreSame : Type 0} (words : 
   causes_so = record {
     statuses = elim its [ inl own ↦ let most = at_most_8 ending in omega (arith, own, most) | inr four ↦ omega (arith, four) ];
     source_failed = once before.source put.source (status_for ending) 3 4 status out.ends.source_cause (λ three. own_is ending status 3 its three (λ e. omega (arith, e))) its;
-    sink_failed = record {
-      kept = let first = out.ends.sink_cause.kept in let then_on = cause.0 in omega (arith, first, then_on);
-      rose = λ four. elim (cause.1 four) [ inl own ↦ rose_on before.sink put.sink sink (out.ends.sink_cause.rose own) cause.0 | inr more ↦ rose_before before.sink put.sink sink out.ends.sink_cause.kept more ];
-    };
+    sink_failed = once_at_last before.sink put.sink sink (status_for ending) 4 status out.ends.sink_cause cause its;
     memory_failed = λ six. out.ends.memory_cause (own_is ending status 6 its six (λ e. omega (arith, e)));
     reset_failed = λ six. six_shows ending before.taken put.taken taken status (Rose before.meter.faults put.meter.faults) closes out.ends.reset_cause (λ unshown. unput (out.ends.unshown unshown)) six;
     tells = closes_tells ending put.taken taken status closes ∙ out.ends.tells;
@@ -219,7 +214,7 @@ module _ {ScriptIsSame TraceIsSame MemoryIsSame BoxesAreSame : Type 0} (words : 
     ending = ending;
     cause = record {
       read_failed = λ three. raised_rose before.source put.source (out.ends.source_cause.failed three);
-      sink_failed = λ four. rose_on before.sink put.sink sink (out.ends.sink_cause.rose four) cause.0;
+      sink_failed = λ four. raised_rose before.sink sink (cause.no_failure (λ both. both.1 four) ∙ out.ends.sink_cause.failed four);
     };
     put = put.taken;
     comes = (out.bip asks).comes text told;
@@ -252,7 +247,7 @@ module _ {ScriptIsSame TraceIsSame MemoryIsSame BoxesAreSame : Type 0} (words : 
       bip = bip_so;
     };
     statuses = statuses_so words status before after ending put.taken closes its out.comes (λ none. (out.usage none).0) usage_so causes_so (λ given told start count from. (_, out.load given told start count taken from))
-        (serves_to_end words status before after bip_so (λ asks. status_low (status_for ending) status its (out.bip asks).low) (λ three. raised_rose before.source put.source (causes_so.source_failed.failed three)) causes_so.sink_failed.rose);
+        (serves_to_end words status before after bip_so (λ asks. status_low (status_for ending) status its (out.bip asks).low) (λ three. raised_rose before.source put.source (causes_so.source_failed.failed three)) (λ four. raised_rose before.sink sink (causes_so.sink_failed.failed four)));
     stays = record {
       untouched = λ early. elim early [ inl one ↦ out.ends.untouched (one_is_early ending (one_is ending status its one)) | inr eight ↦ out.ends.untouched (eight_is_early ending (own_is ending status 8 its eight (λ e. omega (arith, e)))) ];
       bip_untouched = λ asks. ((out.bip asks).memory_kept, (out.bip asks).boxes_kept);
@@ -265,7 +260,7 @@ module _ {ScriptIsSame TraceIsSame MemoryIsSame BoxesAreSame : Type 0} (words : 
 
 -- words in no form are refused
 pub refused : (ScriptIsSame MemoryIsSame BoxesAreSame : Type 0) (words : List (List ℕ)) (status : ℕ) (before : World) (taken : Option (List ℕ)) (sink : ℕ) → ScriptIsSame → MemoryIsSame → BoxesAreSame → (AskForRun words → ⊥)
-    → Closes Usage before.taken taken status → (status ≡ status_for Usage) ⊎ (status ≡ 4) → (before.sink ≤ sink) × (status ≡ 4 → (status_for Usage ≡ 4) ⊎ Rose before.sink sink)
+    → Closes Usage before.taken taken status → (status ≡ status_for Usage) ⊎ (status ≡ 4) → CountsEach before.sink sink ((status ≡ 4) × (status_for Usage ≢ 4))
     → RunsAsAsked words status before (record before { taken = taken; sink = sink }) ScriptIsSame MemoryIsSame BoxesAreSame
 refused ScriptIsSame MemoryIsSame BoxesAreSame words status before taken sink script memory boxes none closes its cause =
     runs_so words Usage status before before taken sink (comes_to_nothing ScriptIsSame MemoryIsSame BoxesAreSame words before none script memory boxes) (λ same. refl) closes its cause

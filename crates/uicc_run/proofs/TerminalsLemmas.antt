@@ -22,10 +22,6 @@ use Rattle.uicc_run.specs.declared.endings.Ending.TheVariants.{NoMemory, Played}
 pub asks_for_run : (words : List (List ℕ)) → AskForBip words → AskForRun words
 asks_for_run words asks = (record { mode = Bip; devices = asks.0 }, asks.1)
 
--- a count that rose has risen further on too
-pub rose_on : (old middle new : ℕ) → Rose old middle → middle ≤ new → Rose old new
-rose_on old middle new rose more = omega (arith, rose, more)
-
 -- no status above 5
 pub status_low : (own status : ℕ) → (status ≡ own) ⊎ (status ≡ 4) → own ≤ 5 → status ≤ 5
 status_low own status (inl is) low = omega arith

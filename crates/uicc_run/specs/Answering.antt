@@ -1,7 +1,7 @@
 -- What the program answers where its words ask for no page: what `run` says, over a device and boxes that are gone at the end.
 use Rattle.std.specs.Prelude.{◌≡◌, ◌⊎◌, ◌+◌, ◌≤◌, ℕ, Bool, true, false, List, Option, Some, None}
-use Rattle.uicc_types.specs.Counts.{CountsFailure, Meter}
-use Rattle.byte_streams.specs.Streams.{CountsOnce}
+use Rattle.uicc_types.specs.Counts.{Meter}
+use Rattle.byte_streams.specs.Streams.{CountsOnce, CountsEach}
 use Rattle.byte_streams.specs.Reading.{IsTaken}
 use Rattle.byte_streams.specs.declared.limits.TheConstants.{MOST_BYTES}
 use Rattle.card_state.specs.Persistent.{Persistent}
@@ -88,8 +88,8 @@ pub record RefusesUseless (words : List (List ℕ)) (status : ℕ) (before after
 pub record HasOuterCauses (words : List (List ℕ)) (status : ℕ) (before after : World) (ScriptIsSame : Type 0) : Type 0 where
   pub load_unread : (start count : ℕ) → AskToLoad words start count → ScriptIsSame
   pub statuses : status ≤ 8
-  pub source_failed : CountsOnce before.source after.source (status ≡ 3)
-  pub sink_failed : CountsFailure before.sink after.sink (status ≡ 4)
+  pub source_failed : CountsOnce before.source after.source (status ≡ 3) (status ≡ 4)
+  pub sink_failed : CountsEach before.sink after.sink (status ≡ 4)
 
 -- What the program owes for its words, its status and what is seen before and after. A page is written and nothing is read. All other words
 -- are those of a run: over any memory, an image too, it says which scripts are carried out, and what a status says of one; over a new memory

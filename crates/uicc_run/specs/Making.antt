@@ -1,6 +1,6 @@
 -- What the functions inside a run say of it, from the words to the lines after `start`. A whole run is told without it.
 use Rattle.std.specs.Prelude.{◌≡◌, ◌≢◌, ◌⊎◌, ◌≤◌, ◌+◌, ℕ, Bool, true, List, [], length, Option, Some, None, Result, Ok, Err, IfSome, is_some, option_map}
-use Rattle.uicc_types.specs.Counts.{Meter, Caused, CountsFailure, Rose}
+use Rattle.uicc_types.specs.Counts.{Meter, Caused, Rose}
 use Rattle.byte_streams.specs.Streams.{CountsEach}
 use Rattle.byte_streams.specs.Reading.{IsTaken}
 use Rattle.byte_streams.specs.declared.limits.TheConstants.{MOST_BYTES}
@@ -113,12 +113,12 @@ pub record KeepsStoreForm {S : Type 0} (words : StoreWords S) (old new : S) (IsF
   pub size : words.byte_count new ≡ words.byte_count old
   pub cause : Caused (words.meter old) (words.meter new) IsFailed IsLost
 
--- Each end has its cause: 3, 4 and 6 come where the source, the sink, the memory failed; of a reset in which the memory failed a fault
+-- Each end has its cause: 3 and 4 come just where the source or the sink failed, 6 only where the memory did; of a reset in which the memory failed a fault
 -- was counted. A sink that tells what it has taken goes on telling it. The trace stays where the memory failed before a card was open,
 -- the memory where nothing was done to it, and the boxes where no card was open; what each of these is.
 pub record EndsFor (ending : Ending) (before after : World) (TraceIsSame MemoryIsSame BoxesAreSame : Type 0) : Type 0 where
   pub source_cause : CountsEach before.source after.source (status_for ending ≡ 3)
-  pub sink_cause : CountsFailure before.sink after.sink (status_for ending ≡ 4)
+  pub sink_cause : CountsEach before.sink after.sink (status_for ending ≡ 4)
   pub memory_cause : status_for ending ≡ 6 → HasFailed before.meter after.meter
   pub reset_cause : ending ≡ Played play.ResetFailed → Rose before.meter.faults after.meter.faults
   pub tells : is_some after.taken ≡ is_some before.taken

@@ -1,8 +1,8 @@
 -- What a run owes its caller, by its words, its status and what is seen of it before and after it. Each field is a fact of its own.
 use Rattle.std.specs.Prelude.{◌≡◌, ◌⊎◌, ◌+◌, ◌≤◌, ℕ, Bool, true, false, List, [], Option, Some, is_some}
 use Rattle.std.specs.Io.KnownBytes.{append_known}
-use Rattle.uicc_types.specs.Counts.{CountsFailure, Rose}
-use Rattle.byte_streams.specs.Streams.{CountsOnce}
+use Rattle.uicc_types.specs.Counts.{Rose}
+use Rattle.byte_streams.specs.Streams.{CountsOnce, CountsEach}
 use Rattle.byte_streams.specs.Lines.{LineList}
 use Rattle.byte_streams.specs.Reading.{IsTaken}
 use Rattle.byte_streams.specs.declared.limits.TheConstants.{MOST_BYTES}
@@ -75,13 +75,13 @@ pub record RefusesWords (words : List (List ℕ)) (status : ℕ) (before after :
   pub usage : (AskForRun words → ⊥) → Closes Usage before.taken after.taken status
   pub usage_only : status ≡ 1 → AskForRun words → ⊥
 
--- Why each status comes. A source that failed isn't asked again, so it has counted at most one failure. With 6 and more than its last line,
--- as in a reset, a fault was counted: a loss of power is none. A sink that tells what it has taken goes on telling it, and one that doesn't
--- never does.
+-- Why each status comes. The source counted just one failure with 3, one or none with 4, else none; the sink one with 4, else none: so neither can be
+-- asked again after it failed, for that might fail too. With 6 and more than its last line, as in a reset, a fault was counted: a loss of power is
+-- none. A sink that tells what it has taken goes on telling it, and one that doesn't never does.
 pub record HasCauses (status : ℕ) (before after : World) : Type 0 where
   pub statuses : status ≤ 8
-  pub source_failed : CountsOnce before.source after.source (status ≡ 3)
-  pub sink_failed : CountsFailure before.sink after.sink (status ≡ 4)
+  pub source_failed : CountsOnce before.source after.source (status ≡ 3) (status ≡ 4)
+  pub sink_failed : CountsEach before.sink after.sink (status ≡ 4)
   pub memory_failed : status ≡ 6 → HasFailed before.meter after.meter
   pub reset_failed : status ≡ 6
       → Rose before.meter.faults after.meter.faults ⊎ (after.taken ≡ append_known before.taken (last_text (MemoryFailed task.Opening)))

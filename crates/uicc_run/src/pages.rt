@@ -1,6 +1,6 @@
 //! The pages that the program prints about itself.
 ghost use Rattle.std.specs.Prelude.{◌≡◌, map, string_bytes};
-ghost use Rattle.uicc_types.specs.Counts.{CountsFailure};
+ghost use Rattle.byte_streams.specs.Streams.{CountsEach};
 ghost use Rattle.script_form.specs.Reads.{Reads};
 ghost use Rattle.uicc_run.specs.Pages.{AsksFor, IsPageWord, Shows, page_text};
 
@@ -36,7 +36,7 @@ fn page_named(word: &str) -> Option<Page>
 /// Writes the page, in one call of `put`, and answers the status: 0, or 4 where the sink failed.
 pub fn show<W: Sink>(page: Page, output: &mut W) -> u8
     ensures shown { Shows page (W.taken output.old) (W.taken output.new) result }
-    ensures cause { CountsFailure (W.faults output.old) (W.faults output.new) (result ≡ 4) }
+    ensures cause { CountsEach (W.faults output.old) (W.faults output.new) (result ≡ 4) }
 {
     match output.put(text_of(page)) {
         Ok(()) => 0,

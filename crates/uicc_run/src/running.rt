@@ -1,8 +1,8 @@
 //! A whole run: the words of the command line, the script, the card's memory and the trace.
 ghost use Rattle.std.specs.Prelude.{◌≡◌, ◌≢◌, ◌⊎◌, ◌≤◌, ◌+◌, ℕ, Bool, List, Some, None, true, map, string_bytes, is_some, option_map, IsErrOf, OnOk, OnErr, Option};
-ghost use Rattle.uicc_types.specs.Counts.{Rose};
 ghost use Rattle.uicc_types.specs.Told.{Becomes};
 ghost use Rattle.byte_streams.specs.Reading.{IsTaken, IsWithin};
+ghost use Rattle.byte_streams.specs.Streams.{CountsEach};
 ghost use Rattle.byte_streams.specs.declared.limits.TheConstants.{MOST_BYTES};
 ghost use Rattle.script_form.specs.Reads.{IsOnly};
 ghost use Rattle.script_reader.specs.Reading.{reading};
@@ -299,8 +299,9 @@ pub fn ending_of(fault: OpenFault) -> Ending
 pub fn close<W: Sink>(ending: &Ending, trace: &mut W) -> u8
     ensures closed { Closes ending.now (W.taken trace.old) (W.taken trace.new) result }
     ensures status { (result ≡ status_for ending.now) ⊎ (result ≡ 4) }
-    ensures cause { (W.faults trace.old ≤ W.faults trace.new)
-        × (result ≡ 4 → (status_for ending.now ≡ 4) ⊎ Rose (W.faults trace.old) (W.faults trace.new)) }
+    // The sink failed in the last line, if the run had not ended for it before that.
+    ensures cause { CountsEach (W.faults trace.old) (W.faults trace.new)
+        ((result ≡ 4) × (status_for ending.now ≢ 4)) }
 {
     let Some(line) = last_line(ending) else {
         return status_of(ending);

@@ -1,6 +1,5 @@
 //! The run of a terminal's channels of the bearer independent protocol, which is over no card.
 ghost use Rattle.std.specs.Prelude.{◌≡◌, ◌≢◌, ◌≤◌, ◌+◌, ℕ, List, Some, is_some};
-ghost use Rattle.uicc_types.specs.Counts.{CountsFailure};
 ghost use Rattle.byte_streams.specs.Reading.{IsTaken};
 ghost use Rattle.byte_streams.specs.Streams.{CountsEach};
 ghost use Rattle.byte_streams.specs.declared.limits.TheConstants.{MOST_BYTES};
@@ -24,7 +23,7 @@ pub fn serve_channels<R: Source, W: Sink>(alloc: Global, script: &mut R, trace: 
     ensures taken { (text : List ℕ) → R.left script.old ≡ Some text
         → IsTaken (MOST_BYTES + 1) text (R.left script.new) }
     ensures source_cause { CountsEach (R.faults script.old) (R.faults script.new) (status_for result ≡ 3) }
-    ensures sink_cause { CountsFailure (W.faults trace.old) (W.faults trace.new) (status_for result ≡ 4) }
+    ensures sink_cause { CountsEach (W.faults trace.old) (W.faults trace.new) (status_for result ≡ 4) }
     ensures tells { is_some (W.taken trace.new) ≡ is_some (W.taken trace.old) }
 {
     match serve(alloc, script, trace) {

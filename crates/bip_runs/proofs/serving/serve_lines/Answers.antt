@@ -1,4 +1,4 @@
-use Rattle.std.proofs.Common.{arith, ◌∙◌}
+use Rattle.std.proofs.Common.{◌∙◌}
 use Rattle.bip_runs.proofs.serving.serve_lines.Goals as goal
 
 pub returns-in-Err-clause-comes : goal.returns-in-Err-clause-comes
@@ -9,6 +9,6 @@ loop-end-preserved g c = record {
   serving = λ text before serving. c.in_default.ensures.served text before (c.loop-end.invariant.serving text before serving);
   within = λ text within. c.serve_line.ensures.within text (c.loop-end.invariant.within text within);
   no_failure = c.serve_line.ensures.source_cause.no_failure (λ is. cc is) ∙ c.loop-end.invariant.no_failure;
-  sink_kept = let before = c.loop-end.invariant.sink_kept in let now = c.serve_line.ensures.sink_cause.kept in omega arith;
+  sink_kept = c.serve_line.ensures.sink_cause.no_failure (λ is. cc is) ∙ c.loop-end.invariant.sink_kept;
   tells = c.serve_line.ensures.tells ∙ c.loop-end.invariant.tells;
 }

@@ -1,5 +1,5 @@
 -- Between two lines the run is where it was at first, or further.
-use Rattle.std.proofs.Common.{◌≡◌, List, ℕ, Option, is_some, ◌≤◌}
+use Rattle.std.proofs.Common.{◌≡◌, List, ℕ, Option, is_some}
 use Rattle.byte_streams.specs.Reading.{IsWithin}
 use Rattle.bip_runs.specs.BetweenLines.{IsServing}
 use Rattle.bip_runs.specs.declared.effects.Place.TheVariants.{Before}
@@ -11,7 +11,7 @@ invariant-loop-end g l = record {
       → IsServing text before l.place l.script (g.R.Source.left l.source) (g.W.Sink.taken l.trace) l.bip;
   within : (text : List ℕ) → IsWithin text l.initial.script.reader (g.R.Source.left l.initial.source) → IsWithin text l.script.reader (g.R.Source.left l.source);
   no_failure : g.R.Source.faults l.source ≡ g.R.Source.faults l.initial.source;
-  sink_kept : g.W.Sink.faults l.initial.trace ≤ g.W.Sink.faults l.trace;
+  sink_kept : g.W.Sink.faults l.trace ≡ g.W.Sink.faults l.initial.trace;
   tells : is_some (g.W.Sink.taken l.trace) ≡ is_some (g.W.Sink.taken l.initial.trace);
 }
 

@@ -25,7 +25,7 @@ loop-end-preserved g c =
       clock = more.clock ∙ c.loop-end.invariant.clock;
       carried = carried_on _ _ _ _ _ _ c.loop-end.invariant.carried c.in-Ok-true.ensures.carried;
       kept = omega (arith, c.in-Ok-true.ensures.tallies.kept, c.loop-end.invariant.kept);
-      sink_kept = omega (arith, c.in-Ok-true.ensures.tallies.sink.kept, c.loop-end.invariant.sink_kept);
+      sink_kept = c.in-Ok-true.ensures.tallies.sink.no_failure (λ is. cc is) ∙ c.loop-end.invariant.sink_kept;
       tells = c.in-Ok-true.ensures.tallies.tells ∙ c.loop-end.invariant.tells;
     }
 

@@ -15,7 +15,7 @@ invariant-loop-end g l = record {
   clock : l.phone.known.clock ≡ l.initial.phone.known.clock;
   carried : CarriesMore l.initial.phone l.phone l.initial.carrier l.carrier;
   kept : l.initial.card.parts.meter.faults ≤ l.card.parts.meter.faults;
-  sink_kept : g.W.Sink.faults l.initial.trace ≤ g.W.Sink.faults l.trace;
+  sink_kept : g.W.Sink.faults l.trace ≡ g.W.Sink.faults l.initial.trace;
   tells : is_some (g.W.Sink.taken l.trace) ≡ is_some (g.W.Sink.taken l.initial.trace);
 }
 

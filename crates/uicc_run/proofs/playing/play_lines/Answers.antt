@@ -24,7 +24,7 @@ loop-script-preserved-in_default g c =
       within = λ text within. c.play_line.ensures.within text (c.loop-script.invariant.within text within);
       kept = let before = c.loop-script.invariant.kept in let now = c.play_line.ensures.tallies.steps.kept in omega arith;
       no_failure = c.play_line.ensures.tallies.source_cause.no_failure (λ is. cc is) ∙ c.loop-script.invariant.no_failure;
-      sink_kept = let before = c.loop-script.invariant.sink_kept in let now = c.play_line.ensures.tallies.steps.sink.kept in omega arith;
+      sink_kept = c.play_line.ensures.tallies.steps.sink.no_failure (λ is. cc is) ∙ c.loop-script.invariant.sink_kept;
       tells = c.play_line.ensures.tallies.steps.tells ∙ c.loop-script.invariant.tells;
     }
 
@@ -43,6 +43,6 @@ loop-script-preserved g c =
       within = λ text within. c.serve_line.ensures.within text (c.loop-script.invariant.within text within);
       kept = let before = c.loop-script.invariant.kept in let now = c.serve_line.ensures.tallies.steps.kept in omega arith;
       no_failure = c.serve_line.ensures.tallies.source_cause.no_failure (λ is. cc is) ∙ c.loop-script.invariant.no_failure;
-      sink_kept = let before = c.loop-script.invariant.sink_kept in let now = c.serve_line.ensures.tallies.steps.sink.kept in omega arith;
+      sink_kept = c.serve_line.ensures.tallies.steps.sink.no_failure (λ is. cc is) ∙ c.loop-script.invariant.sink_kept;
       tells = c.serve_line.ensures.tallies.steps.tells ∙ c.loop-script.invariant.tells;
     }

@@ -21,7 +21,7 @@ invariant-loop-script g l = record {
   within : (text : List ℕ) → IsWithin text l.initial.script.reader (g.R.Source.left l.initial.source) → IsWithin text l.script.reader (g.R.Source.left l.source);
   kept : l.initial.card.parts.meter.faults ≤ l.card.parts.meter.faults;
   no_failure : g.R.Source.faults l.source ≡ g.R.Source.faults l.initial.source;
-  sink_kept : g.W.Sink.faults l.initial.trace ≤ g.W.Sink.faults l.trace;
+  sink_kept : g.W.Sink.faults l.trace ≡ g.W.Sink.faults l.initial.trace;
   tells : is_some (g.W.Sink.taken l.trace) ≡ is_some (g.W.Sink.taken l.initial.trace);
 }
 

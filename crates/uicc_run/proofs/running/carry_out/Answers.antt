@@ -63,7 +63,7 @@ returns-in-Load g c = record {
   used = c.load.ensures.ends.used;
   ends = record {
     source_cause = record { failed = λ three. absurd (c.load.ensures.ends.unread three); no_failure = λ other. refl };
-    sink_cause = record { kept = omega arith; rose = λ four. absurd (c.load.ensures.ends.unwritten four) };
+    sink_cause = record { failed = λ four. absurd (c.load.ensures.ends.unwritten four); no_failure = λ other. refl };
     memory_cause = c.load.ensures.ends.memory_cause;
     reset_cause = λ is. absurd (c.load.ensures.ends.played _ is);
     tells = refl;

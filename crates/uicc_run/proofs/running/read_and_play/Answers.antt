@@ -81,7 +81,7 @@ returns-clause-memory g c = λ given mark play. record {
 pub returns-clause-ends : goal.returns-clause-ends
 returns-clause-ends g c = record {
   source_cause = record { failed = λ three. absurd (omega (arith, three)); no_failure = λ other. c.read_section.ensures.cause.no_failure (λ is. cc is) };
-  sink_cause = record { kept = omega arith; rose = λ four. absurd (omega (arith, four)) };
+  sink_cause = record { failed = λ four. absurd (omega (arith, four)); no_failure = λ other. refl };
   memory_cause = λ six. c.in-Err-make.ensures.failed;
   reset_cause = λ is. absurd (cc is);
   tells = refl;
