@@ -100,8 +100,10 @@ pub(crate) fn write_reply<W: Sink>(
             Ok(()) => Ok(()),
             Err(Failed) => Err(Failed),
         },
-        Err(LinkFault::PowerLost) => write_step(trace, &TraceLine::Cut),
-        Err(LinkFault::NoPower) => write_step(trace, &TraceLine::Off),
+        Err(fault) => match fault {
+            LinkFault::PowerLost => write_step(trace, &TraceLine::Cut),
+            LinkFault::NoPower => write_step(trace, &TraceLine::Off),
+        },
     }
 }
 
