@@ -1,16 +1,18 @@
 -- A run whose card was open ends as its lines do.
-use Rattle.std.proofs.Common.{◌≡◌, ℕ, Result, Ok, Err, refl, sym, ap, subst, arith, inl, is_some, IsErr}
+use Rattle.std.proofs.Common.{◌≡◌, ◌⊎◌, ◌∙◌, ℕ, false, Result, Ok, Err, refl, sym, ap, subst, arith, inl, is_some, IsErr}
 use Rattle.uicc_types.specs.Counts.{Meter, Rose}
 use Rattle.byte_streams.specs.Streams.{CountsEach}
 use Rattle.script_reader.specs.declared.behind.PlayEnd.{PlayEnd}
 use Rattle.script_reader.specs.declared.behind.PlayEnd.TheVariants as play
+use Rattle.script_reader.specs.declared.faults.ScriptFault.{ScriptFault}
+use Rattle.script_reader.specs.declared.faults.ScriptFault.TheVariants as script
 use Rattle.long_runs.specs.declared.counts.Counts.{Counts}
 use Rattle.run_steps.specs.declared.steps.MemoryFailed.{MemoryFailed}
 use Rattle.uicc_run.specs.Making.{EndsFor, EndsLoad, IsUnshown, ending_for_load}
 use Rattle.uicc_run.specs.Endings.{IsEarly, IsUnopened, status_for}
 use Rattle.uicc_run.specs.Worlds.{World}
 use Rattle.uicc_run.specs.declared.endings.Ending.{Ending}
-use Rattle.uicc_run.specs.declared.endings.Ending.TheVariants.{Played}
+use Rattle.uicc_run.specs.declared.endings.Ending.TheVariants.{Played, Section}
 
 for_its_source : (end : PlayEnd) → status_for (Played end) ≡ 3 → end ≡ play.ReadFailed
 for_its_source play.ReadFailed is = refl
@@ -52,6 +54,61 @@ ends_unbegun ending world not_3 not_4 not_6 shown memory boxes = record {
   unshown = λ unshown. absurd (shown unshown);
   untouched = memory;
   boxes = boxes;
+}
+
+-- ---- before `start`
+
+abbrev stopped_for : {T : Type 0} → ScriptFault → Result T ScriptFault
+stopped_for fault = Err fault
+
+same_fault : {T : Type 0} (fault other : ScriptFault) → stopped_for {T = T} fault ≡ stopped_for {T = T} other → fault ≡ other
+same_fault fault other is = cc is
+
+for_its_text : (fault : ScriptFault) → status_for (Section fault) ≡ 3 → fault ≡ script.ReadFailed
+for_its_text script.ReadFailed is = refl
+for_its_text other is = absurd (cc)
+
+not_for_its_sink : (fault : ScriptFault) → status_for (Section fault) ≡ 4 → ⊥
+not_for_its_sink (script.BadLine number) is = absurd (omega (arith, is))
+not_for_its_sink (script.NoRoom number) is = absurd (omega (arith, is))
+not_for_its_sink script.ReadFailed is = absurd (omega (arith, is))
+
+not_for_its_memory : (fault : ScriptFault) → status_for (Section fault) ≡ 6 → ⊥
+not_for_its_memory (script.BadLine number) is = absurd (omega (arith, is))
+not_for_its_memory (script.NoRoom number) is = absurd (omega (arith, is))
+not_for_its_memory script.ReadFailed is = absurd (omega (arith, is))
+
+-- the lines before `start` leave all but the source
+pub ends_in_section : {T TraceIsSame MemoryIsSame BoxesAreSame : Type 0} → (fault : ScriptFault) (before after : World) → CountsEach before.source after.source (stopped_for {T = T} fault ≡ stopped_for {T = T} script.ReadFailed) → after.sink ≡ before.sink → is_some after.taken ≡ is_some before.taken
+    → MemoryIsSame → BoxesAreSame → EndsFor (Section fault) before after TraceIsSame MemoryIsSame BoxesAreSame
+ends_in_section {T} fault before after source sink tells memory boxes = record {
+  source_cause = record {
+    failed = λ three. source.failed (ap (stopped_for {T = T}) (for_its_text fault three));
+    no_failure = λ other. source.no_failure (λ is. other (ap (λ f. status_for (Section f)) (same_fault {T = T} fault script.ReadFailed is)));
+  };
+  sink_cause = record { failed = λ four. absurd (not_for_its_sink fault four); no_failure = λ other. sink };
+  memory_cause = λ six. absurd (not_for_its_memory fault six);
+  reset_cause = λ is. absurd (cc is);
+  tells = tells;
+  unshown = λ none. absurd none;
+  untouched = λ early. memory;
+  boxes = λ unopened. boxes;
+}
+
+-- what ends a run of whose source, sink and memory no failure was met before that
+pub ends_later : {TraceIsSame MemoryIsSame BoxesAreSame : Type 0} → (ending : Ending) (before mid after : World) → mid.source ≡ before.source → mid.sink ≡ before.sink → is_some mid.taken ≡ is_some before.taken
+    → mid.meter.faults ≡ before.meter.faults → mid.meter.cuts ≡ before.meter.cuts → mid.meter.powered ≡ before.meter.powered → EndsFor ending mid after TraceIsSame ⊥ BoxesAreSame → EndsFor ending before after TraceIsSame MemoryIsSame BoxesAreSame
+ends_later ending before mid after source sink told faults cuts powered ends = record {
+  source_cause = subst (λ n. CountsEach n after.source (status_for ending ≡ 3)) source ends.source_cause;
+  sink_cause = subst (λ n. CountsEach n after.sink (status_for ending ≡ 4)) sink ends.sink_cause;
+  memory_cause = λ six. subst (λ n. Rose n after.meter.faults ⊎ (Rose before.meter.cuts after.meter.cuts ⊎ (before.meter.powered ≡ false))) faults
+      (subst (λ n. Rose mid.meter.faults after.meter.faults ⊎ (Rose n after.meter.cuts ⊎ (before.meter.powered ≡ false))) cuts
+      (subst (λ b. Rose mid.meter.faults after.meter.faults ⊎ (Rose mid.meter.cuts after.meter.cuts ⊎ (b ≡ false))) powered (ends.memory_cause six)));
+  reset_cause = λ is. subst (λ n. Rose n after.meter.faults) faults (ends.reset_cause is);
+  tells = ends.tells ∙ told;
+  unshown = ends.unshown;
+  untouched = λ early. absurd (ends.untouched early);
+  boxes = ends.boxes;
 }
 
 -- a long run ends with its counts, or for its memory

@@ -7,6 +7,7 @@ use Rattle.layout_section.specs.Laying.{KeepsFirstOr}
 use Rattle.applet_trait.specs.Minds.{minds_of}
 use Rattle.section_lines.specs.SectionReading.{EndsInSection}
 use Rattle.uicc_run.specs.Scripts.{ReachesStart}
+use Rattle.uicc_run.proofs.EndsForLemmas.{ends_in_section, ends_later}
 use Rattle.uicc_run.proofs.OpeningLemmas.{at_first, at_start_of, described_some, describes_none, keeps_so, made_none, made_so, memory_tells, not_made, quiet_still, reached, stays_made}
 use Rattle.uicc_run.proofs.running.read_and_play.Goals as goal
 
@@ -89,3 +90,13 @@ returns-clause-ends g c = record {
   untouched = λ early. absurd early;
   boxes = λ unopened. refl;
 }
+
+-- ---- before that, and after it
+
+pub returns-in-Err-clause-ends : goal.returns-in-Err-clause-ends
+returns-in-Err-clause-ends g c = ends_in_section c.in-Err.fault _ _ c.in-Err.ensures.cause refl refl refl refl
+
+pub returns-in-Ok-make-clause-ends : goal.returns-in-Ok-make-clause-ends
+returns-in-Ok-make-clause-ends g c =
+    let cause = c.in-Ok-make.ensures.keeps.cause in
+    ends_later c.open_and_play.result.0 _ _ _ (c.in-Ok.ensures.cause.no_failure (λ is. cc is)) refl refl (cause.no_fault (λ is. cc is)) (cause.no_cut (λ is. cc is)) (cause.power_kept (λ is. cc is)) c.open_and_play.ensures.ends
