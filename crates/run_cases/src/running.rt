@@ -1,6 +1,4 @@
 //! Carries out the runs of a case over one device.
-ghost use Rattle.std.specs.Prelude.{IsTrue, map, string_bytes};
-ghost use Rattle.uicc_run.specs.Stores.{IsSizeFor};
 
 use crate::boxes::{Notes, Noting, NotingSink, marks_of};
 use crate::cases::{Boxes, Calls, Case, ScriptRun};
@@ -14,7 +12,7 @@ use card_state::sizes::ROW_COUNT;
 use command_line::devices;
 use eeprom_model::{Eeprom, SwitchedEeprom};
 use std::alloc::{AllocError, Global};
-use uicc_run::{device_size, run};
+use uicc_run::{device_size, fits, run};
 
 /// The longest trace that a run may have.
 const LONGEST_TRACE: usize = 1_048_576;
@@ -161,14 +159,4 @@ fn shelves_of(alloc: Global, boxes: &Boxes) -> Result<Vec<Option<usize>>, AllocE
         }
     }
     Ok(shelves)
-}
-
-/// Whether a device of so many bytes is one for a run with these words.
-fn fits(words: &[String], size: usize) -> bool
-    ensures { IsTrue result → IsSizeFor (map string_bytes words.now) size }
-{
-    match devices(words) {
-        Some(made) => size == device_size(made.pages),
-        None => true,
-    }
 }

@@ -1,6 +1,4 @@
 //! A run, over a device, a source, a sink and applets of one's own.
-ghost use Rattle.std.specs.Prelude.{IsTrue, map, string_bytes};
-ghost use Rattle.uicc_run.specs.Stores.{IsSizeFor};
 
 use crate::own::Own;
 use applet_trait::Applet;
@@ -11,17 +9,7 @@ use eeprom_model::{BenchEeprom, Eeprom};
 use script_form::{ListSink, Sink, SliceSource, Source};
 use std::alloc::Global;
 use std::test::Fail;
-use uicc_run::{Devices, device_size, devices, run};
-
-/// Whether a device of so many bytes is one for a run with these words.
-fn fits(words: &[String], size: usize) -> bool
-    ensures { IsTrue result → IsSizeFor (map string_bytes words.now) size }
-{
-    match devices(words) {
-        Some(made) => size == device_size(made.pages),
-        None => true,
-    }
-}
+use uicc_run::{Devices, device_size, devices, fits, run};
 
 /// What a run answers, or 255 where the device or the boxes are none for one.
 fn ran<R: Source, W: Sink, E: Eeprom + Drop>(
@@ -71,7 +59,7 @@ fn a_run_has_boxes_of_each_kind(rt: HostRuntime) -> Result<(), Fail> {
         inner: ListSink::new(alloc, 4096, &[])?,
     };
     let eeprom = Own {
-        inner: BenchEeprom::new(alloc, MEMORY_SIZE)?,
+        inner: BenchEeprom::new(alloc, device_size(false))?,
     };
     let (status, eeprom, cast) = ran(alloc, &words, &mut script, &mut trace, eeprom, cast);
     assert_eq!(rt; status, 0);

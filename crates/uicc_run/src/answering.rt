@@ -1,11 +1,11 @@
 //! What the program answers to the words of its command line.
-ghost use Rattle.std.specs.Prelude.{◌≡◌, ◌≤◌, ℕ, [], Some, None, length, map, option_map, slice_get, string_bytes};
+ghost use Rattle.std.specs.Prelude.{◌≡◌, ◌≤◌, ◌↔◌, ℕ, [], IsTrue, Some, None, length, map, option_map, slice_get, string_bytes};
 ghost use Rattle.card_state.specs.declared.sizes.TheConstants.{ROW_COUNT};
 ghost use Rattle.applet_trait.specs.Minds.{minds_of};
 ghost use Rattle.uicc_run.specs.Answering.{AnswersAsAsked};
 ghost use Rattle.uicc_run.specs.Pages.{words_of};
 ghost use Rattle.uicc_run.specs.Worlds.{outside};
-ghost use Rattle.uicc_run.specs.Stores.{size_of};
+ghost use Rattle.uicc_run.specs.Stores.{IsSizeFor, size_of};
 
 use crate::endings::Ending;
 use crate::images::{image_file, use_of};
@@ -14,7 +14,7 @@ use crate::running::{close, run_for};
 use applet_trait::Applet;
 use byte_streams::{Sink, Source};
 use card_state::places::MEMORY_SIZE;
-use command_line::asked_for;
+use command_line::{asked_for, devices};
 use eeprom_model::{BenchEeprom, FileEeprom};
 use page_store::DEVICE_SIZE;
 use std::fs::File;
@@ -81,6 +81,16 @@ pub fn device_size(pages: bool) -> usize
     ensures { result ≡ size_of pages }
 {
     if pages { DEVICE_SIZE } else { MEMORY_SIZE }
+}
+
+/// Whether a device of so many bytes is one for a run with these words, which is what `run` asks of it. Words in no form ask for none.
+pub fn fits(words: &[String], size: usize) -> bool
+    ensures { IsTrue result ↔ IsSizeFor (map string_bytes words.now) size }
+{
+    match devices(words) {
+        Some(made) => size == device_size(made.pages),
+        None => true,
+    }
 }
 
 /// The path of the image, where one is named.

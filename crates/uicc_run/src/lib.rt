@@ -14,7 +14,7 @@ mod playing;
 mod running;
 mod terminals;
 
-pub use answering::{answer, device_size};
+pub use answering::{answer, device_size, fits};
 pub use command_line::{Devices, devices};
 pub use endings::{Ending, Refusal, Task};
 pub use laws::{numbers_are_standard, served_traces_are_one, traces_are_one};
