@@ -15,5 +15,5 @@ returns-in-Some c = (
   λ fits.
       let made = c.in-Some.ensures.so in
       let same : c.args.size ≡ c.device_size.result = fits made.asked made.words_are ∙ ap (λ d. size_of d.pages) (sym made.devices) ∙ sym c.device_size.ensures in
-      grind (arith, nat_tests, same)
+      grind (arith, nat_tests, same),
 )
