@@ -1,5 +1,5 @@
 -- Each status comes of one ending: the others are ruled out by its number or by sound devices, so that the script tells which it is.
-use Rattle.std.proofs.Common.{◌≡◌, ◌≢◌, ◌⊎◌, ◌≤◌, ◌+◌, ℕ, Bool, true, false, List, Option, Some, arith, refl, sym, ap, ◌∙◌, subst, inl, inr}
+use Rattle.std.proofs.Common.{◌≡◌, ◌≢◌, ◌⊎◌, ◌+◌, ℕ, Bool, true, false, List, Option, Some, arith, refl, sym, ap, ◌∙◌, subst, inl, inr}
 use Rattle.uicc_types.specs.Counts.{Rose}
 use Rattle.byte_streams.proofs.ReadingLemmas.{IsTaken-none}
 use Rattle.byte_streams.proofs.StreamsLemmas.{once, once_at_last, raised_rose}

@@ -21,4 +21,4 @@ tells_same found other taken same tells = subst (λ l. TellsNext l taken) same t
 -- after the last line, be it taken or not
 pub closes_tells : (ending : Ending) (before taken : Option (List ℕ)) (status : ℕ) → Closes ending before taken status → is_some taken ≡ is_some before
 closes_tells ending before taken status (inl whole) = tells_whole (last_text ending) before taken whole.1
-closes_tells ending before taken status (inr broken) = tells_front (last_text ending) before taken broken.1
+closes_tells ending before taken status (inr broken) = tells_front (last_text ending) before taken broken.1.1

@@ -2,7 +2,7 @@
 -- memory holds, and why the run ended.
 use Rattle.std.specs.Io.KnownBytes.{append_known}
 use Rattle.std.specs.List.{flat_map}
-use Rattle.std.specs.Prelude.{◌≡◌, ◌⊎◌, ℕ, Bool, true, false, List, [], ◌∷◌, ◌++◌, Option, Some, None, is_some, Result, Ok, Err}
+use Rattle.std.specs.Prelude.{◌≡◌, ◌≢◌, ◌⊎◌, ℕ, Bool, true, false, List, [], ◌∷◌, ◌++◌, Option, Some, None, is_some, Result, Ok, Err}
 use Rattle.std.specs.Result.{result_ok}
 use Rattle.uicc_types.specs.Told.{Becomes}
 use Rattle.byte_streams.specs.Lines.{LineList, lines}
@@ -114,11 +114,12 @@ Comes given told left ending leaves = ⊥
 abbrev pub last_text : Ending → List ℕ
 last_text ending = flat_map trace_text (line_for ending)
 
--- The last line was taken, and the status is that of the end; or the sink failed in that very line, and the status is 4.
+-- The last line was taken, if there is one, and the status is that of the end; or there is one, the sink failed in that very line, and the status
+-- is 4.
 abbrev pub Closes : Ending → Option (List ℕ) → Option (List ℕ) → ℕ → Type 0
 Closes ending before taken status =
     ((status ≡ status_for ending) × (taken ≡ append_known before (last_text ending)))
-    ⊎ ((status ≡ 4) × Becomes (TakesFront (last_text ending)) before taken)
+    ⊎ ((status ≡ 4) × ((line_for ending ≢ []) × Becomes (TakesFront (last_text ending)) before taken))
 
 -- The run ended so, for this cause: what it comes to, then the last line.
 pub record Traces (given : Given) (told : Bool) (left : Option (List ℕ)) (leaves : Leaves) (status : ℕ) (HasCause : Ending → Type 0) : Type 0 where
