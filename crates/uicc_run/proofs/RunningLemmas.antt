@@ -213,7 +213,7 @@ module _ {ScriptIsSame TraceIsSame MemoryIsSame BoxesAreSame : Type 0} (words : 
   bip_so text asks told = record {
     ending = ending;
     cause = record {
-      read_failed = λ three. raised_rose before.source put.source (out.ends.source_cause.failed three);
+      read_failed = out.ends.source_cause;
       sink_failed = λ four. raised_rose before.sink sink (cause.no_failure (λ both. both.1 four) ∙ out.ends.sink_cause.failed four);
     };
     put = put.taken;
@@ -228,7 +228,7 @@ module _ {ScriptIsSame TraceIsSame MemoryIsSame BoxesAreSame : Type 0} (words : 
         ending = ending;
         cause = record {
           usage = out.usage_only;
-          read_failed = λ three. raised_rose before.source put.source (out.ends.source_cause.failed three);
+          read_failed = out.ends.source_cause;
           eeprom_failed = out.ends.memory_cause;
           untouched = out.ends.untouched;
           boxes_kept = out.ends.boxes;

@@ -1,6 +1,7 @@
 -- Why a run ends as it does, and what it leaves alone.
 use Rattle.std.specs.Prelude.{◌≡◌, ◌⊎◌, ◌≤◌, ℕ, true, List, Option, None, is_some, length}
-use Rattle.uicc_types.specs.Counts.{Meter, Rose}
+use Rattle.uicc_types.specs.Counts.{Meter}
+use Rattle.byte_streams.specs.Streams.{CountsEach}
 use Rattle.card_state.specs.declared.sizes.TheConstants.{ROW_COUNT}
 use Rattle.card_state.specs.Persistent.{Persistent}
 use Rattle.command_line.specs.Model.{AskForRun}
@@ -37,11 +38,11 @@ KeepsMemory given ending before after MemoryIsSame =
 
 -- ---- of a run whose trace is told
 
--- Why a run under these words ended so, and what it left alone, be its last line taken or not; what it is for the memory and the boxes to
--- be as they were.
+-- Why a run under these words ended so, and what it left alone, be its last line taken or not: its source counted one failure where it ended for
+-- that, else none. What it is for the memory and the boxes to be as they were.
 pub record IsCaused (given : Given) (words : List (List ℕ)) (before after : World) (MemoryIsSame BoxesAreSame : Type 0) (ending : Ending) : Type 0 where
   pub usage : ending ≡ Usage → AskForRun words → ⊥
-  pub read_failed : status_for ending ≡ 3 → Rose before.source after.source
+  pub read_failed : CountsEach before.source after.source (status_for ending ≡ 3)
   pub eeprom_failed : status_for ending ≡ 6 → HasFailed before.meter after.meter
   pub untouched : IsEarly ending → MemoryIsSame
   pub boxes_kept : IsUnopened ending → BoxesAreSame
@@ -57,5 +58,5 @@ pub record IsLoadCaused (given : Given) (before after : World) (MemoryIsSame Box
 -- and of a run whose memory and boxes are gone at the end: what the memory's device counted before it, and what it had counted then
 pub record IsSeenCause (words : List (List ℕ)) (seen : Seen) (memory memory_then : Meter) (ending : Ending) : Type 0 where
   pub usage : ending ≡ Usage → AskForRun words → ⊥
-  pub read_failed : status_for ending ≡ 3 → Rose seen.source seen.source_then
+  pub read_failed : CountsEach seen.source seen.source_then (status_for ending ≡ 3)
   pub eeprom_failed : status_for ending ≡ 6 → HasFailed memory memory_then

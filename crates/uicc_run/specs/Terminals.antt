@@ -1,6 +1,7 @@
 -- The run of a terminal's channels: what it comes to, and when it comes to its end. No card is made or opened for it.
 use Rattle.std.specs.Prelude.{◌≡◌, ℕ, List, Option, Some}
 use Rattle.uicc_types.specs.Counts.{Rose}
+use Rattle.byte_streams.specs.Streams.{CountsEach}
 use Rattle.command_line.specs.Model.{IsRequest}
 use Rattle.command_line.specs.declared.requests.Devices.{Devices}
 use Rattle.command_line.specs.declared.requests.Mode.TheVariants.{Bip}
@@ -23,7 +24,7 @@ ComesToBip text before left taken ending = ⊥
 
 -- why it ended so, be its last line taken or not
 pub record IsBipCaused (seen : Seen) (ending : Ending) : Type 0 where
-  pub read_failed : status_for ending ≡ 3 → Rose seen.source seen.source_then
+  pub read_failed : CountsEach seen.source seen.source_then (status_for ending ≡ 3)
   pub sink_failed : status_for ending ≡ 4 → Rose seen.sink seen.sink_then
 
 -- The run ended so, for this cause: what it comes to, then the last line.
