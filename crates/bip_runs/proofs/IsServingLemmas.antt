@@ -1,5 +1,5 @@
 -- From one line to the next, and why no more are carried out.
-use Rattle.std.proofs.Common.{◌≡◌, ℕ, ◌+◌, false, List, [], ◌∷◌, ◌++◌, reverse, Option, Some, None, Ok, Err, refl, sym, ap, ◌∙◌, subst, flat_map}
+use Rattle.std.proofs.Common.{◌≡◌, ℕ, ◌+◌, false, List, [], ◌∷◌, ◌++◌, reverse, Option, Some, None, Ok, Err, refl, sym, ap, ◌∙◌, subst, flat_map, rules}
 use Rattle.std.proofs.lemmas.Grind.{flat_map-append}
 use Rattle.std.proofs.lemmas.List.{append-nil, append_assoc, reverse-append}
 use Rattle.std.specs.Io.KnownBytes.{append_known}
@@ -17,18 +17,18 @@ use Rattle.script_reader.specs.Reading.{Finds, Follows, GivesNext, IsUnread}
 use Rattle.script_reader.specs.declared.behind.PlayEnd.{PlayEnd}
 use Rattle.script_reader.specs.declared.behind.PlayEnd.TheVariants.{Finished, BadLine, SinkFailed, ResetFailed}
 use Rattle.script_reader.specs.declared.faults.ScriptFault.{ScriptFault}
-use Rattle.script_reader.specs.declared.faults.ScriptFault.TheVariants as fault
 use Rattle.script_reader.specs.declared.reader.ScriptReader.{ScriptReader}
+use Rattle.script_reader.specs.declared.faults.ScriptFault.TheVariants as fault
 use Rattle.bip_channels.specs.Channels.{none_open}
 use Rattle.bip_channels.specs.Kept.{Held, IsKept}
 use Rattle.bip_channels.specs.Traffic.{Occurrence, channels_after}
 use Rattle.bip_runs.specs.Parts.{Part, Blank, Begins, Does, Foreign, occurrences, occurrences_of, part_of, moved, step}
-use Rattle.bip_runs.proofs.ScriptsLemmas.{moved_by-more}
 use Rattle.bip_runs.specs.Serving.{AreInOrder, AreReadInPlace, BipComesTo, EndsServing, IsBadAt, Stops, StopsServing}
 use Rattle.bip_runs.specs.BetweenLines.{IsServing}
 use Rattle.bip_runs.specs.Traces.{history, lines_of, shown, text_of}
 use Rattle.bip_runs.specs.declared.effects.Place.{Place}
 use Rattle.bip_runs.specs.declared.effects.Place.TheVariants.{Before, Behind}
+use Rattle.bip_runs.proofs.ScriptsLemmas.{moved_by-more}
 
 -- ---- what happens by lines
 
@@ -92,14 +92,7 @@ serves_on : (text : List ℕ) (before : Option (List ℕ)) (place to : Place) (s
 serves_on text before place to script next left left_then taken held line search_so leads none serving =
     let finds = search_so serving.found serving.follows in
     let same = happens_none serving.said line none in
-    record {
-      found = serving.found ++ Some finds.bytes ∷ [];
-      said = serving.said ++ line ∷ [];
-      lines_are = read_more serving.found serving.said finds.bytes line place to serving.lines_are finds.read leads;
-      follows = finds.follows;
-      kept = subst (λ h. IsKept (channels_after h) held) (sym same) serving.kept;
-      written = serving.written ∙ ap (λ h. append_known before (shown h)) (sym same);
-    }
+    search (rules, read_more serving.found serving.said finds.bytes line place to serving.lines_are finds.read leads, finds, subst (λ h. IsKept (channels_after h) held) (sym same) serving.kept, serving.written ∙ ap (λ h. append_known before (shown h)) (sym same))
 
 pub blank_serves : (text : List ℕ) (before : Option (List ℕ)) (place : Place) (script next : ScriptReader) (left left_then taken : Option (List ℕ)) (held : List Held) (line : ScriptLine)
     → ((found : LineList) → Follows text found script left → Finds text found next left_then line) → Blank ≡ part_of line
@@ -124,15 +117,7 @@ happening_serves text before place script next left left_then taken taken_then h
     let earlier = history serving.said in
     let newer = happens_one serving.said line one (happens_by line (Does one) (one ∷ []) is refl) in
     let stays : step place (Does one) ≡ Some place = ap (λ p. step p (Does one)) at ∙ ap Some (sym at) in
-    record {
-      found = serving.found ++ Some finds.bytes ∷ [];
-      said = serving.said ++ line ∷ [];
-      lines_are = read_more serving.found serving.said finds.bytes line place place serving.lines_are finds.read (as_part place line (Does one) (Some place) is stays);
-      follows = finds.follows;
-      kept = subst (λ h. IsKept (channels_after h) held_then) (sym newer) (keeps earlier serving.kept);
-      written = puts earlier serving.kept ∙ ap (λ t. append_known t (text_of (lines_of one (channels_after earlier)))) serving.written
-          ∙ known_twice before (shown earlier) (text_of (lines_of one (channels_after earlier))) ∙ ap (λ h. append_known before (shown h)) (sym newer);
-    }
+    search (rules, read_more serving.found serving.said finds.bytes line place place serving.lines_are finds.read (as_part place line (Does one) (Some place) is stays), finds, subst (λ h. IsKept (channels_after h) held_then) (sym newer) (keeps earlier serving.kept), puts earlier serving.kept ∙ ap (λ t. append_known t (text_of (lines_of one (channels_after earlier)))) serving.written ∙ known_twice before (shown earlier) (text_of (lines_of one (channels_after earlier))) ∙ ap (λ h. append_known before (shown h)) (sym newer))
 
 -- the sink failed in what it shows
 pub happening_stops : (text : List ℕ) (before : Option (List ℕ)) (place : Place) (script next : ScriptReader) (left left_then taken taken_then : Option (List ℕ)) (held : List Held) (line : ScriptLine) (one : Occurrence)
@@ -144,34 +129,14 @@ happening_stops text before place script next left left_then taken taken_then he
     let finds = search_so serving.found serving.follows in
     let earlier = history serving.said in
     let stays : step place (Does one) ≡ Some place = ap (λ p. step p (Does one)) at ∙ ap Some (sym at) in
-    record {
-      found = serving.found ++ Some finds.bytes ∷ [];
-      more = finds.more;
-      said = serving.said ++ line ∷ [];
-      place = place;
-      newest = one;
-      earlier = earlier;
-      parted = finds.parted ∙ sym (append_assoc serving.found (Some finds.bytes ∷ []) finds.more);
-      lines_are = read_more serving.found serving.said finds.bytes line place place serving.lines_are finds.read (as_part place line (Does one) (Some place) is stays);
-      happened = happens_one serving.said line one (happens_by line (Does one) (one ∷ []) is refl);
-      written = subst (λ t. Becomes (TakesFront (text_of (lines_of one (channels_after earlier)))) t taken_then) serving.written (puts earlier serving.kept);
-      in_order = order (history (serving.said ++ line ∷ []));
-    }
+    search (rules, finds.parted ∙ sym (append_assoc serving.found (Some finds.bytes ∷ []) finds.more), read_more serving.found serving.said finds.bytes line place place serving.lines_are finds.read (as_part place line (Does one) (Some place) is stays), happens_one serving.said line one (happens_by line (Does one) (one ∷ []) is refl), subst (λ t. Becomes (TakesFront (text_of (lines_of one (channels_after earlier)))) t taken_then) serving.written (puts earlier serving.kept), order (history (serving.said ++ line ∷ [])))
 
 -- ---- where no more are carried out
 
 ends_serving : (text : List ℕ) (before : Option (List ℕ)) (place : Place) (script : ScriptReader) (left left_then taken : Option (List ℕ)) (held : List Held) (end : PlayEnd)
     → ((h : List Occurrence) → AreInOrder h) → ((found : LineList) → Follows text found script left → Stops place text found left_then end)
     → IsServing text before place script left taken held → EndsServing text before left_then taken end
-ends_serving text before place script left left_then taken held end order cause serving = record {
-  found = serving.found;
-  said = serving.said;
-  place = place;
-  lines_are = serving.lines_are;
-  cause = cause serving.found serving.follows;
-  written = serving.written;
-  in_order = order (history serving.said);
-}
+ends_serving text before place script left left_then taken held end order cause serving = search (rules, serving, cause serving.found serving.follows, order (history serving.said))
 
 to_end : (text : List ℕ) (before left taken : Option (List ℕ)) (end : PlayEnd) → EndsServing text before left taken end → BipComesTo text before left taken end
 to_end text before left taken SinkFailed ends = absurd ends.cause

@@ -11,18 +11,18 @@ use Rattle.file_model.specs.declared.commands.FileCommand.TheVariants as file
 use Rattle.comprehension_tlv.specs.Writing.{tagged, spellings}
 use Rattle.toolkit_commands.specs.declared.commands.Details.{Details}
 use Rattle.card_model.specs.Answers.{Answered, answer, answer_of, carried_with, settled, tried, with_pending}
-use Rattle.card_model.proofs.TriedLemmas.{cut_result}
 use Rattle.card_model.specs.Instructions.{instruction_tried, is_known}
 use Rattle.card_model.specs.States.{CardState}
 use Rattle.card_model.specs.declared.instructions.Instruction.{Instruction}
 use Rattle.card_model.specs.declared.instructions.Instruction.TheVariants.{File, Toolkit}
+use Rattle.card_model.proofs.TriedLemmas.{cut_result}
 use Rattle.card_model.specs.declared.instructions.CatCommand.TheVariants as toolkit
 use Rattle.card_laws.specs.Moving.{command_by, if_carried, taken_by, taken}
 use Rattle.handset_model.specs.Sending.{toolkit_apdu, response_objects, envelope, apdu_of}
 use Rattle.handset_model.specs.declared.commands.Command.{Command}
-use Rattle.handset_model.specs.declared.commands.Command.TheVariants as sent
 use Rattle.handset_model.specs.declared.commands.Reply.{Reply}
 use Rattle.handset_model.specs.declared.commands.Report.{Report}
+use Rattle.handset_model.specs.declared.commands.Command.TheVariants as sent
 
 -- ---- chains
 

@@ -13,15 +13,15 @@ use Rattle.handset_model.specs.History.{Happened, Noted, Said, Sent, commands, k
 use Rattle.handset_model.specs.Sending.{apdu_of}
 use Rattle.handset_model.specs.declared.TheConstants.{MOST_COMMANDS}
 use Rattle.handset_model.specs.declared.commands.Command.{Command}
-use Rattle.handset_model.specs.declared.commands.Command.TheVariants as sent
 use Rattle.handset_model.specs.declared.steps.PhoneStep.{PhoneStep}
+use Rattle.handset_model.specs.declared.commands.Command.TheVariants as sent
 use Rattle.handset_model.specs.declared.steps.PhoneStep.TheVariants as step
 use Rattle.terminal_side.specs.Kept.{Kept, kept}
 use Rattle.run_steps.specs.Taking.{Outcome}
-use Rattle.run_steps.proofs.CarriesLemmas.{carries_fewer, carries_none, carries_on}
 use Rattle.run_steps.specs.Carriers.{Carries}
 use Rattle.run_steps.specs.declared.carriers.Carrier.{Carrier}
 use Rattle.run_steps.specs.declared.steps.Restarted.{Restarted as AReset}
+use Rattle.run_steps.proofs.CarriesLemmas.{carries_fewer, carries_none, carries_on}
 use Rattle.run_steps.specs.declared.steps.Restarted.TheVariants as ended
 use Rattle.phone_runs.proofs.ApduOfLemmas.{parts_of, parts_read}
 use Rattle.phone_runs.proofs.ServeLemmas.{IsAskedOf, note_keeps, note_so, reset_keeps, reset_so, sent_so}

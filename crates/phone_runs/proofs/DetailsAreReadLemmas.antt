@@ -1,7 +1,7 @@
 -- What a handset reads of a command that a card spelled, and what the card reads of a response.
 use Rattle.std.proofs.Common.{◌≡◌, ℕ, ◌+◌, ◌≤◌, Bool, true, false, List, [], ◌∷◌, length, Option, Some, None, Result, Ok, Err, refl, sym, ◌∙◌, ap, subst, arith, inl, inr, ◌==◌, ◌&&◌, if◌then◌else◌, is_some, unwrap_or, option_and_then}
-use Rattle.std.specs.List.{AllByRecursion}
 use Rattle.std.proofs.lemmas.Bool.{eq-eqb, cases_lt, lt-ltb, le-ltb, and_from}
+use Rattle.std.specs.List.{AllByRecursion}
 use Rattle.comprehension_tlv.specs.Model.{Object, flagged, IsLength, IsObject, IsObjects, IsTemplate}
 use Rattle.comprehension_tlv.specs.Reading.{first_value, objects_of, template_of}
 use Rattle.comprehension_tlv.specs.Writing.{shortest_length, tagged, spelling, spellings}

@@ -4,15 +4,15 @@ use Rattle.std.specs.Prelude.{⊤}
 use Rattle.uicc_types.specs.declared.answers.Answer.{Answer}
 use Rattle.uicc_types.specs.declared.answers.TheConstants.StatusWord.{TOOLKIT_BUSY}
 use Rattle.script_form.specs.declared.handset.HandsetLine.{HandsetLine}
-use Rattle.script_form.specs.declared.handset.HandsetLine.TheVariants as line
 use Rattle.script_form.specs.declared.handset.Note.{Note}
+use Rattle.script_form.specs.declared.handset.HandsetLine.TheVariants as line
 use Rattle.script_form.specs.declared.handset.Note.TheVariants as note
 use Rattle.toolkit_commands.specs.Values.{is_pair}
 use Rattle.toolkit_commands.specs.declared.commands.Details.{Details}
 use Rattle.toolkit_commands.specs.declared.commands.Proactive.{Proactive}
-use Rattle.toolkit_commands.specs.declared.commands.Proactive.TheVariants as proactive
 use Rattle.toolkit_commands.specs.declared.faults.ProactiveFault.{ProactiveFault}
 use Rattle.toolkit_commands.specs.declared.qualifiers.TheConstants.{CARD_RESET}
+use Rattle.toolkit_commands.specs.declared.commands.Proactive.TheVariants as proactive
 use Rattle.handset_model.specs.declared.commands.Command.TheVariants as sent
 use Rattle.handset_model.specs.declared.known.Due.{Due}
 use Rattle.handset_model.specs.declared.known.Duty.{Duty}

@@ -1,11 +1,11 @@
 -- What the sink has taken where a run ended before the handset rested.
-use Rattle.std.proofs.Common.{◌≡◌, ℕ, Bool, true, false, List, [], ◌∷◌, ◌++◌, refl, sym, ap, ◌∙◌, append_assoc, subst, inl, inr, map, reverse, ◌⊎◌, MatchBool, Ok, Err}
+use Rattle.std.proofs.Common.{◌≡◌, ℕ, Bool, true, false, List, [], ◌∷◌, ◌++◌, refl, sym, ap, ◌∙◌, append_assoc, subst, inl, inr, map, reverse, ◌⊎◌, MatchBool, Ok, Err, rules}
 use Rattle.std.proofs.lemmas.List.{append-nil, reverse-append}
 use Rattle.uicc_types.specs.Told.{IsFront}
 use Rattle.uicc_types.specs.declared.answers.Answer.{Answer}
 use Rattle.uicc_types.specs.declared.plans.Plan.{Plan}
-use Rattle.uicc_types.specs.declared.runs.Step.TheVariants as step
 use Rattle.uicc_types.specs.declared.runs.TraceItem.{TraceItem}
+use Rattle.uicc_types.specs.declared.runs.Step.TheVariants as step
 use Rattle.uicc_types.specs.declared.runs.TraceItem.TheVariants as item
 use Rattle.t0_link.specs.declared.endpoint.LinkFault.TheVariants.{PowerLost, NoPower}
 use Rattle.script_form.specs.declared.handset.Note.{Note}
@@ -24,8 +24,8 @@ use Rattle.run_steps.specs.Runs.{item_text, text_of}
 use Rattle.run_steps.specs.Stepping.{BreaksOff, IsCutOff, Moment}
 use Rattle.run_steps.specs.Taking.{Outcome, exchanged}
 use Rattle.run_steps.specs.Views.{CardView, IsReply, ItsPower, LastShows, StepShows, TheCard}
-use Rattle.run_steps.specs.declared.steps.Restarted.TheVariants as ended
 use Rattle.run_steps.specs.declared.steps.StepEnd.TheVariants.{SinkFailed, ResetFailed}
+use Rattle.run_steps.specs.declared.steps.Restarted.TheVariants as ended
 use Rattle.phone_runs.proofs.RunsAreLegalLemmas.{is_of}
 use Rattle.phone_runs.proofs.RunsLemmas.{lines_reset, lines_sent, orderly_reset, orderly_sent, text-append, trace_noted, trace_reset, trace_sent, with_reply, with_reset}
 use Rattle.phone_runs.specs.Laws.{EndsAreBegun}
@@ -128,20 +128,12 @@ reset_begun log old new items due set is orderly (inr fails, same) = stopped_at 
 -- ---- ends
 
 pub shows_step : (given : Beginning) (log : List Event) (old : CardView) (s : _) (now : Moment) → (broken : BreaksInStep given log old s now) → IsBegun (heard (log_lines log)) (trace log ++ map Seen broken.pending) → ShowsTrace given (lines_back log) (trace log ++ map Seen broken.pending) now
-shows_step given log old s now broken begun = record {
-  begun = begun;
-  front = entries_text (trace log) ++ broken.front;
-  is_front = front_as _ _ _ (sym (text_with log broken.pending)) (front_behind (entries_text (trace log)) broken.front (text_of broken.pending) (front_of_pending broken.pending broken.front broken.cut_off));
-  written = broken.written;
-}
+shows_step given log old s now broken begun =
+    search (rules, begun, front_as _ _ _ (sym (text_with log broken.pending)) (front_behind (entries_text (trace log)) broken.front (text_of broken.pending) (front_of_pending broken.pending broken.front broken.cut_off)), broken)
 
 pub shows_note : (given : Beginning) (log : List Event) (old : CardView) (note : Note) (now : Moment) → asked (history log) ≡ Show note → IsOrderly (history log) → BreaksInNote given log old note now → ShowsTrace given (lines_back log) (trace log ++ Shown note ∷ []) now
-shows_note given log old note now is orderly broken = record {
-  begun = begun_by log (Happens (Noted note) ∷ log) _ refl (is, orderly) (trace_noted note log);
-  front = entries_text (trace log) ++ broken.front;
-  is_front = front_as _ _ _ (sym (text-append (trace log) (Shown note ∷ []) ∙ ap (λ more. entries_text (trace log) ++ more) (append-nil (note_line note)))) (front_behind (entries_text (trace log)) broken.front (note_line note) broken.begun);
-  written = broken.written;
-}
+shows_note given log old note now is orderly broken =
+    search (rules, begun_by log (Happens (Noted note) ∷ log) _ refl (is, orderly) (trace_noted note log), front_as _ _ _ (sym (text-append (trace log) (Shown note ∷ []) ∙ ap (λ more. entries_text (trace log) ++ more) (append-nil (note_line note)))) (front_behind (entries_text (trace log)) broken.front (note_line note) broken.begun), broken)
 
 shows_broken : (given : Beginning) (log : List Event) (old : CardView) (now : Moment) (duty : Duty) → asked (history log) ≡ duty → IsOrderly (history log) → BreaksIn given log old now duty → ShowsBegun given (lines_back log) now
 shows_broken given log old now (Transmit command) is orderly broken =
@@ -155,12 +147,8 @@ shows_told : (given : Beginning) (told other : List PhoneLine) (now : Moment) �
 shows_told given told other now same shows = subst (λ t. ShowsBegun given t now) same shows
 
 pub shows_failed : (given : Beginning) (told : List PhoneLine) (now : Moment) → (failed : FailsSo given told now) → ShowsTrace given (lines_back failed.log) (trace failed.log ++ map Seen failed.last) now
-shows_failed given told now failed = record {
-  begun = stopped_at failed.log failed.last failed.resets failed.run.orderly (last_items failed.old failed.card failed.last failed.ends);
-  front = entries_text (trace failed.log) ++ text_of failed.last;
-  is_front = front_as _ _ _ (sym (text_with failed.log failed.last)) ([], sym (append-nil (entries_text (trace failed.log) ++ text_of failed.last)));
-  written = failed.written;
-}
+shows_failed given told now failed =
+    search (rules, stopped_at failed.log failed.last failed.resets failed.run.orderly (last_items failed.old failed.card failed.last failed.ends), front_as _ _ _ (sym (text_with failed.log failed.last)) ([], sym (append-nil (entries_text (trace failed.log) ++ text_of failed.last))), failed)
 
 pub ended_begun : EndsAreBegun
 ended_begun given told now SinkFailed broken = shows_told given told _ now broken.lines_are (shows_broken given broken.log broken.old now (asked (history broken.log)) refl broken.run.orderly broken.broken)

@@ -1,21 +1,21 @@
 -- What a card answers to a command of a handset, and what waits after it.
 use Rattle.std.proofs.Common.{◌≡◌, ℕ, zero, suc, ◌+◌, ◌≤◌, Bool, true, false, List, [], ◌∷◌, length, Option, Some, None, Result, Ok, Err, refl, sym, ◌∙◌, ap, subst, arith, inl, inr, ◌==◌, ◌/◌, ◌%◌, ◌||◌, ◌⊎◌, not, if◌then◌else◌, is_some, IfSome, MatchResult, option_map, slice_set}
-use Rattle.std.specs.Prelude.{⊤}
 use Rattle.std.proofs.lemmas.Bool.{eq-eqb, ne_eqb, false≢true}
+use Rattle.std.specs.Prelude.{⊤}
 use Rattle.uicc_types.specs.declared.answers.Answer.{Answer}
 use Rattle.uicc_types.specs.declared.answers.StatusWord.{StatusWord}
 use Rattle.uicc_types.specs.declared.answers.TheConstants.StatusWord.{DONE, WRONG_LENGTH, WRONG_PARAMETERS, WRONG_DATA, CONDITIONS_NOT_SATISFIED}
 use Rattle.apdu_form.specs.Model.{Apdu, ne_of}
+use Rattle.apdu_form.specs.Classes.{channel_of}
 use Rattle.file_model.specs.Chains.{and_given}
 use Rattle.file_model.specs.Outcomes.{FileOutcome}
 use Rattle.file_model.specs.Records.{other_length}
 use Rattle.file_model.specs.Selecting.{status_told, telling}
 use Rattle.file_model.specs.declared.selections.Selection.{Selection}
-use Rattle.file_model.proofs.ChainsLemmas.{unless_so, given_so}
-use Rattle.apdu_form.specs.Classes.{channel_of}
 use Rattle.file_model.specs.Channels.{is_open}
-use Rattle.file_model.specs.declared.commands.FileCommand.TheVariants as file
 use Rattle.file_model.specs.Commands.{file_outcome}
+use Rattle.file_model.proofs.ChainsLemmas.{unless_so, given_so}
+use Rattle.file_model.specs.declared.commands.FileCommand.TheVariants as file
 use Rattle.comprehension_tlv.specs.Writing.{spellings}
 use Rattle.toolkit_commands.specs.Envelopes.{envelope_of}
 use Rattle.toolkit_commands.specs.Responses.{response_of}
@@ -26,12 +26,12 @@ use Rattle.toolkit_model.specs.Sessions.{Outstanding}
 use Rattle.toolkit_model.specs.Steps.{Fetch}
 use Rattle.card_model.specs.Answers.{Answered, answer, carried_out, file_tried, toolkit_tried, settled, told_pending, event_told}
 use Rattle.card_model.specs.Instructions.{is_known}
-use Rattle.card_model.proofs.ToldPendingLemmas.{pending_few}
 use Rattle.card_model.specs.States.{CardState}
 use Rattle.card_model.specs.Toolkit.{ToolkitOutcome, toolkit_of, coming_to, is_length_of, profile_taken, command_fetched, response_taken, envelope_taken, toolkit_outcome}
 use Rattle.card_model.specs.declared.instructions.Instruction.TheVariants.{File, Toolkit}
-use Rattle.card_model.specs.declared.instructions.CatCommand.TheVariants as toolkit
+use Rattle.card_model.proofs.ToldPendingLemmas.{pending_few}
 use Rattle.card_model.proofs.TriedLemmas.{cut_result, cut_so}
+use Rattle.card_model.specs.declared.instructions.CatCommand.TheVariants as toolkit
 use Rattle.card_laws.specs.Fetching.{FetchesGiveCommands}
 use Rattle.card_laws.specs.ToolkitLaws.{EventsGoOn}
 use Rattle.card_laws.specs.Moving.{HasOrder, Answers, if_carried, command_by, taken}
@@ -40,8 +40,8 @@ use Rattle.card_laws.proofs.InsOfLemmas.{other_if, report_leaves}
 use Rattle.handset_model.specs.Sending.{response_objects, apdu_of}
 use Rattle.handset_model.specs.History.{announced_by}
 use Rattle.handset_model.specs.declared.commands.Command.{Command}
-use Rattle.handset_model.specs.declared.commands.Command.TheVariants as sent
 use Rattle.handset_model.specs.declared.commands.Reply.{Reply}
+use Rattle.handset_model.specs.declared.commands.Command.TheVariants as sent
 use Rattle.phone_runs.specs.Exchanges.{ResponsesAreRead, CanServe, Announces, AnnouncedCommandsAreFetched, ResponsesAreTaken}
 use Rattle.phone_runs.proofs.ApduOfLemmas.{past_unless, past_given, instruction_of, parts_of, carried, comes, answer_so, taken_so}
 

@@ -1,7 +1,7 @@
 -- A command of a handset is answered: the handset and the card agree then, and FETCH and TERMINAL RESPONSE are served.
 use Rattle.std.proofs.Common.{◌≡◌, ℕ, ◌≤◌, Bool, true, false, List, ◌∷◌, length, Option, Some, None, Result, Ok, Err, refl, sym, ◌∙◌, ap, subst, inl, inr, ◌==◌, ◌/◌, ◌%◌, ◌⊎◌, if◌then◌else◌, IfSome}
-use Rattle.std.specs.Prelude.{⊤}
 use Rattle.std.proofs.lemmas.Bool.{false≢true}
+use Rattle.std.specs.Prelude.{⊤}
 use Rattle.uicc_types.specs.declared.answers.Answer.{Answer}
 use Rattle.uicc_types.specs.declared.answers.StatusWord.{StatusWord}
 use Rattle.uicc_types.specs.declared.answers.TheConstants.StatusWord.{DONE}
@@ -20,12 +20,12 @@ use Rattle.handset_model.specs.History.{Happened, Sent, Answered, as_held, broug
 use Rattle.handset_model.specs.Rules.{asked, answered_at, answered, fetched}
 use Rattle.handset_model.specs.Sending.{apdu_of}
 use Rattle.handset_model.specs.declared.commands.Command.{Command}
-use Rattle.handset_model.specs.declared.commands.Command.TheVariants as sent
 use Rattle.handset_model.specs.declared.commands.Report.{Report}
-use Rattle.handset_model.specs.declared.commands.Report.TheVariants as report
 use Rattle.handset_model.specs.declared.known.Duty.TheVariants.{Transmit}
 use Rattle.handset_model.specs.declared.known.Held.{Held}
 use Rattle.handset_model.specs.declared.known.Known.{Known}
+use Rattle.handset_model.specs.declared.commands.Command.TheVariants as sent
+use Rattle.handset_model.specs.declared.commands.Report.TheVariants as report
 use Rattle.phone_runs.specs.Exchanges.{ReadsDetails, DetailsAreRead, CanServe, Announces, Awaits, IsFetched, AnnouncedCommandsAreFetched, ResponsesAreTaken}
 use Rattle.phone_runs.specs.HandsetServing.{IsServing, is_fetch_or_response}
 use Rattle.phone_runs.proofs.AgreesLemmas.{Meets, Agrees, IsStill, speaks}

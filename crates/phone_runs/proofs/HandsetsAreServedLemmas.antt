@@ -1,13 +1,13 @@
 -- A run follows a handset that keeps to its rules.
-use Rattle.std.proofs.Common.{◌≡◌, ℕ, Bool, true, false, List, [], ◌∷◌, ◌++◌, refl, sym, ◌∙◌, ap, subst, inl, inr, MatchBool}
-use Rattle.std.specs.Prelude.{⊤}
+use Rattle.std.proofs.Common.{◌≡◌, ℕ, Bool, true, false, List, [], ◌∷◌, ◌++◌, refl, sym, ◌∙◌, ap, subst, inl, inr, MatchBool, rules}
 use Rattle.std.proofs.lemmas.Bool.{false≢true}
+use Rattle.std.specs.Prelude.{⊤}
 use mathlib.Core.List.{reverse_aux}
 use Rattle.uicc_types.specs.declared.answers.Answer.{Answer}
 use Rattle.uicc_types.specs.declared.answers.StatusWord.{StatusWord}
 use Rattle.uicc_types.specs.declared.runs.Step.{Step}
-use Rattle.uicc_types.specs.declared.runs.Step.TheVariants as step
 use Rattle.uicc_types.specs.declared.runs.TraceItem.{TraceItem}
+use Rattle.uicc_types.specs.declared.runs.Step.TheVariants as step
 use Rattle.uicc_types.specs.declared.runs.TraceItem.TheVariants as item
 use Rattle.script_form.specs.declared.handset.HandsetLine.{HandsetLine}
 use Rattle.card_model.specs.Runs.{Commands, MeetsNoPower, StepGives, IsRun}
@@ -223,12 +223,7 @@ module _ (goes : EventsGoOn) (others : OthersLeaveUnanswered) (reads : DetailsAr
   answer_came h answer rest new whole reached = absurd (next_seen h _ new whole reached)
 
   reset_cut : (h : List Happened) (rest : List TraceItem) (new : Machine) (whole : List TraceItem) → At h (item.Cut ∷ rest) new whole → At (PowerCut ∷ h) rest new whole
-  reset_cut h rest new whole at = record {
-    machine = unpowered (restarted at.machine.card);
-    agrees = agrees_cut goes h at.machine at.agrees;
-    goes = next_seen h (item.Cut ∷ rest) new whole at;
-    all_served = at.all_served;
-  }
+  reset_cut h rest new whole at = search (rules, agrees_cut goes h at.machine at.agrees, next_seen h (item.Cut ∷ rest) new whole at, at)
 
   cut_came : (h : List Happened) (rest : List TraceItem) (new : Machine) (whole : List TraceItem) → Reached h (item.Cut ∷ rest) new whole → At (PowerCut ∷ h) rest new whole
   cut_came (Sent command ∷ h) rest new whole reached = reached_cut h command rest new whole reached.0 reached.1
@@ -257,12 +252,7 @@ module _ (goes : EventsGoOn) (others : OthersLeaveUnanswered) (reads : DetailsAr
     reach (Answered answer ∷ h) rest new steps orderly run = answer_came h answer rest new _ (reach h (item.Answer answer.body answer.status ∷ rest) new steps orderly.1 run)
     reach (Restarted ∷ h) rest new steps orderly run =
         let at = at_rest h (item.Reset ∷ rest) new (onto h (item.Reset ∷ rest)) (other (asked h) ResetCard orderly.0 (λ same. absurd (cc))) (reach h (item.Reset ∷ rest) new steps orderly.1 run) in
-        record {
-          machine = powered (restarted at.machine.card);
-          agrees = agrees_restarted goes h at.machine at.agrees;
-          goes = next_seen h (item.Reset ∷ rest) new (onto h (item.Reset ∷ rest)) at;
-          all_served = at.all_served;
-        }
+        search (rules, agrees_restarted goes h at.machine at.agrees, next_seen h (item.Reset ∷ rest) new (onto h (item.Reset ∷ rest)) at, at)
     reach (PowerCut ∷ h) rest new steps orderly run = cut_came h rest new _ (reach h (item.Cut ∷ rest) new steps orderly.1 run)
     reach (FoundOff ∷ h) rest new steps orderly run = absurd (off_came h rest new _ (reach h (item.Off ∷ rest) new steps orderly.1 run))
 

@@ -1,5 +1,5 @@
 -- From one event of a handset to the next: all is in order, and less is left to do for the line.
-use Rattle.std.proofs.Common.{◌≡◌, ℕ, ◌<◌, Bool, true, false, List, ◌∷◌, Option, Some, None, refl, sym, ap, ◌∙◌, subst, inl, inr, arith, ◌+◌, ◌&&◌, if◌then◌else◌, is_none, length, Ok, Err}
+use Rattle.std.proofs.Common.{◌≡◌, ℕ, ◌<◌, Bool, true, false, List, ◌∷◌, Option, Some, None, refl, sym, ap, ◌∙◌, subst, inl, inr, arith, ◌+◌, ◌&&◌, if◌then◌else◌, is_none, length, Ok, Err, rules}
 use Rattle.uicc_types.specs.declared.answers.Answer.{Answer}
 use Rattle.t0_link.specs.declared.endpoint.LinkFault.TheVariants.{PowerLost, NoPower}
 use Rattle.script_form.specs.declared.handset.HandsetLine.{HandsetLine}
@@ -100,12 +100,7 @@ sent_by : LinesEnd → (h : List Happened) (command : Command) (event : Happened
     → clock (event ∷ Sent command ∷ h) ≡ clock h → IsNext h (event ∷ Sent command ∷ h)
 sent_by ending h command event first second of_line same_commands same_clock =
     let less = ending (Sent command ∷ h) event second of_line in
-    record {
-      orderly = second;
-      less = less_twice _ _ _ less (ending h (Sent command) first tt);
-      clock_is = same_clock;
-      no_answer = answered_calm (commands (Sent command ∷ h)) (asked (event ∷ Sent command ∷ h)) (subst (λ count. work count (asked (event ∷ Sent command ∷ h)) < work_left (Sent command ∷ h)) same_commands less);
-    }
+    search (rules, second, less_twice _ _ _ less (ending h (Sent command) first tt), same_clock, answered_calm (commands (Sent command ∷ h)) (asked (event ∷ Sent command ∷ h)) (subst (λ count. work count (asked (event ∷ Sent command ∷ h)) < work_left (Sent command ∷ h)) same_commands less))
 
 pub sent_next : LinesEnd → (h : List Happened) (command : Command) (outcome : Outcome) (answer : Answer) → IsOrderly h → asked h ≡ Transmit command → IsNext h (replied outcome answer ∷ Sent command ∷ h)
 sent_next ending h command (Ok done) answer orderly is = sent_by ending h command (Answered answer) (is, orderly) (refl, (is, orderly)) tt refl refl

@@ -1,5 +1,5 @@
 -- From one line after `start` to the next, and why the lines end there.
-use Rattle.std.proofs.Common.{◌≡◌, ℕ, true, List, [], ◌∷◌, ◌++◌, reverse, Option, Some, sym, ap, ◌∙◌, subst}
+use Rattle.std.proofs.Common.{◌≡◌, ℕ, true, List, [], ◌∷◌, ◌++◌, reverse, Option, Some, sym, ap, ◌∙◌, subst, rules}
 use Rattle.std.proofs.lemmas.List.{append-nil, append_assoc, reverse-append}
 use Rattle.std.proofs.lemmas.List.Elements.{All-nil, All-push}
 use Rattle.std.proofs.lemmas.Grind.{flat_map-append}
@@ -9,12 +9,12 @@ use Rattle.script_form.specs.Forms.{IsLine}
 use Rattle.script_form.specs.Reads.{IsOnly}
 use Rattle.script_form.specs.declared.lines.ScriptLine.{ScriptLine}
 use Rattle.script_reader.specs.Behind.{StopsReading}
-use Rattle.script_reader.proofs.AreReadLemmas.{AreRead-more}
 use Rattle.script_reader.specs.Reading.{Finds, Follows}
 use Rattle.script_reader.specs.Said.{AreRead}
 use Rattle.script_reader.specs.declared.behind.PlayEnd.{PlayEnd}
 use Rattle.script_reader.specs.declared.behind.PlayEnd.TheVariants.{SinkFailed, ResetFailed}
 use Rattle.script_reader.specs.declared.reader.ScriptReader.{ScriptReader}
+use Rattle.script_reader.proofs.AreReadLemmas.{AreRead-more}
 use Rattle.card_core.specs.Parts.{CardParts}
 use Rattle.terminal_side.specs.Kept.{Kept}
 use Rattle.run_steps.proofs.SteppingLemmas.{stands_seen}
@@ -24,12 +24,12 @@ use Rattle.run_steps.specs.declared.steps.StepEnd.{StepEnd}
 use Rattle.run_steps.specs.declared.steps.StepEnd.TheVariants as step_end
 use Rattle.phone_runs.specs.Lines.{may_be_heard, phone_lines, phone_lines_of, AreServed, PhoneComesTo, PhoneEnds, StopsAmid, told_back}
 use Rattle.phone_runs.specs.Logs.{PhoneLine, lines_back, shown}
-use Rattle.phone_runs.proofs.RunsAreLegalLemmas.{legal, of_the_card}
-use Rattle.phone_runs.proofs.EndsAreBegunLemmas.{ended_begun}
-use Rattle.phone_runs.proofs.EndsAreOfTheCardLemmas.{ended_of_card}
 use Rattle.phone_runs.specs.Runs.{Beginning, RunEnds}
 use Rattle.phone_runs.specs.Settling.{Rests}
 use Rattle.phone_runs.specs.BetweenLines.{EndsAmid, IsServing, StandsAtStart}
+use Rattle.phone_runs.proofs.RunsAreLegalLemmas.{legal, of_the_card}
+use Rattle.phone_runs.proofs.EndsAreBegunLemmas.{ended_begun}
+use Rattle.phone_runs.proofs.EndsAreOfTheCardLemmas.{ended_of_card}
 
 -- ---- what the lines tell the handset
 
@@ -58,16 +58,7 @@ served_more opening found played bytes line so_far only may = record {
 -- the handset was started
 pub starts_serving : (text : List ℕ) (opening : List ScriptLine) (given : Beginning) (script : ScriptReader) (left : Option (List ℕ)) (phone : Kept) (from now : Moment)
     → StandsAtStart text opening given script left from → Rests given [] phone now → IsServing text opening given script left phone now
-starts_serving text opening given script left phone from now stands started = record {
-  found = stands.found;
-  played = [];
-  log = started.log;
-  are_served = served_none opening stands.found stands.read;
-  follows = stands.follows;
-  told = started.lines_are;
-  at = started.at;
-  rests = started.done;
-}
+starts_serving text opening given script left phone from now stands started = search (rules, stands, started, served_none opening stands.found stands.read)
 
 -- a line that does nothing
 pub serves_on : (text : List ℕ) (opening : List ScriptLine) (given : Beginning) (script next : ScriptReader) (left left_then : Option (List ℕ)) (phone : Kept) (now : Moment) (line : ScriptLine)
@@ -75,16 +66,7 @@ pub serves_on : (text : List ℕ) (opening : List ScriptLine) (given : Beginning
     → IsServing text opening given script left phone now → IsServing text opening given next left_then phone now
 serves_on text opening given script next left left_then phone now line search_so may none serving =
     let finds = search_so serving.found serving.follows in
-    record {
-      found = serving.found ++ Some finds.bytes ∷ [];
-      played = serving.played ++ line ∷ [];
-      log = serving.log;
-      are_served = served_more opening serving.found serving.played finds.bytes line serving.are_served finds.read may;
-      follows = finds.follows;
-      told = serving.told ∙ sym (told_none serving.played line none);
-      at = serving.at;
-      rests = serving.rests;
-    }
+    search (rules, serving, served_more opening serving.found serving.played finds.bytes line serving.are_served finds.read may, finds, serving.told ∙ sym (told_none serving.played line none))
 
 -- a line that the handset is told
 pub serves_further : (text : List ℕ) (opening : List ScriptLine) (given : Beginning) (script next : ScriptReader) (left left_then : Option (List ℕ)) (phone phone_then : Kept) (from to : Moment) (line : ScriptLine) (one : PhoneLine)
@@ -93,16 +75,7 @@ pub serves_further : (text : List ℕ) (opening : List ScriptLine) (given : Begi
     → IsServing text opening given next left_then phone_then to
 serves_further text opening given script next left left_then phone phone_then from to line one search_so may is serving further =
     let finds = search_so serving.found serving.follows in
-    record {
-      found = serving.found ++ Some finds.bytes ∷ [];
-      played = serving.played ++ line ∷ [];
-      log = further.log;
-      are_served = served_more opening serving.found serving.played finds.bytes line serving.are_served finds.read may;
-      follows = finds.follows;
-      told = further.lines_are ∙ ap (λ (back : List PhoneLine). one ∷ back) serving.told ∙ sym (told_one serving.played line one is);
-      at = further.at;
-      rests = further.done;
-    }
+    search (rules, further, served_more opening serving.found serving.played finds.bytes line serving.are_served finds.read may, finds, further.lines_are ∙ ap (λ (back : List PhoneLine). one ∷ back) serving.told ∙ sym (told_one serving.played line one is))
 
 -- ---- where it ends amid a line
 
@@ -129,16 +102,7 @@ stops_in_line text opening given script next left left_then phone from to line o
     let finds = search_so serving.found serving.follows in
     let there : RunEnds given (told_back (serving.played ++ line ∷ [])) to end =
     subst (λ (back : List PhoneLine). RunEnds given back to end) (ap (λ (back : List PhoneLine). one ∷ back) serving.told ∙ sym (told_one serving.played line one is)) ended in
-    record {
-      found = serving.found ++ Some finds.bytes ∷ [];
-      more = finds.more;
-      played = serving.played ++ line ∷ [];
-      parted = finds.parted ∙ sym (append_assoc serving.found (Some finds.bytes ∷ []) finds.more);
-      are_served = served_more opening serving.found serving.played finds.bytes line serving.are_served finds.read may;
-      ended = there;
-      begun = ended_begun given (told_back (serving.played ++ line ∷ [])) to end there;
-      of_card = ended_of_card given (told_back (serving.played ++ line ∷ [])) to end there;
-    }
+    search (rules, finds.parted ∙ sym (append_assoc serving.found (Some finds.bytes ∷ []) finds.more), served_more opening serving.found serving.played finds.bytes line serving.are_served finds.read may, ended_begun given (told_back (serving.played ++ line ∷ [])) to end there, ended_of_card given (told_back (serving.played ++ line ∷ [])) to end there)
 
 -- a step that was the last
 pub ends_amid : (text : List ℕ) (opening : List ScriptLine) (given : Beginning) (left : Option (List ℕ)) (end : StepEnd) (why : PlayEnd) (now : Moment) → EndsAmid end why → StopsAmid text opening given end now → PhoneComesTo text opening given left why now
@@ -151,23 +115,8 @@ ends_amid text opening given left step_end.ResetFailed why now is stops = subst 
 pub ends_serving : (text : List ℕ) (opening : List ScriptLine) (given : Beginning) (script : ScriptReader) (left left_then : Option (List ℕ)) (end : PlayEnd) (phone : Kept) (parts : CardParts) (taken : Option (List ℕ)) (waiting : Plan)
     → ((found : LineList) → Follows text found script left → StopsReading may_be_heard text found left_then end)
     → IsServing text opening given script left phone (moment parts taken waiting) → PhoneEnds text opening given left_then end (moment parts taken waiting)
-ends_serving text opening given script left left_then end phone parts taken waiting cause serving = record {
-  found = serving.found;
-  played = serving.played;
-  log = serving.log;
-  card = serving.at.card;
-  are_served = serving.are_served;
-  told = serving.told;
-  run = serving.at.run;
-  rests = serving.rests;
-  legal = legal given.first serving.at.card serving.log serving.at.run serving.rests;
-  of_card = of_the_card given.first serving.at.card serving.log serving.at.run;
-  cause = cause serving.found serving.follows;
-  seen = serving.at.seen;
-  stands = stands_seen parts taken waiting serving.at.card (shown serving.log) serving.at.seen serving.at.rests;
-  written = serving.at.written;
-  counted = serving.at.counted;
-}
+ends_serving text opening given script left left_then end phone parts taken waiting cause serving =
+    search (rules, serving, legal given.first serving.at.card serving.log serving.at.run serving.rests, of_the_card given.first serving.at.card serving.log serving.at.run, cause serving.found serving.follows, stands_seen parts taken waiting serving.at.card (shown serving.log) serving.at.seen serving.at.rests)
 
 -- whatever the end is
 pub lines_end : (text : List ℕ) (opening : List ScriptLine) (given : Beginning) (left : Option (List ℕ)) (end : PlayEnd) (now : Moment) → PhoneEnds text opening given left end now → PhoneComesTo text opening given left end now

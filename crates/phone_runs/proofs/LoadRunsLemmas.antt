@@ -1,7 +1,7 @@
 -- From one line of a long run to the next, and what is counted at its end.
-use Rattle.std.proofs.Common.{◌≡◌, ℕ, List, [], ◌∷◌, ◌++◌, map, reverse, Some, refl, sym, ap, ◌∙◌, subst, flat_map}
-use Rattle.std.specs.Io.KnownBytes.{append_known}
+use Rattle.std.proofs.Common.{◌≡◌, ℕ, List, [], ◌∷◌, ◌++◌, map, reverse, Some, refl, sym, ap, ◌∙◌, subst, flat_map, rules}
 use Rattle.std.proofs.lemmas.List.{append-nil, append_assoc, reverse-append, reverse-reverse}
+use Rattle.std.specs.Io.KnownBytes.{append_known}
 use Rattle.uicc_types.specs.declared.plans.Plan.{Plan}
 use Rattle.uicc_types.specs.declared.plans.TheConstants.Plan.{NONE}
 use Rattle.uicc_types.specs.declared.runs.Step.{Step}
@@ -38,31 +38,17 @@ told_more back line others =
     ap (λ (told : List PhoneLine). told ++ all_heard others) (reverse-append (Hears line ∷ []) back) ∙ append_assoc (reverse back) (Hears line ∷ []) (all_heard others)
 
 pub starts_loading : (made others : List HandsetLine) (given : Beginning) (phone : Kept) (now : Moment) → others ≡ made → Rests given [] phone now → IsLoading made given others phone now
-starts_loading made others given phone now same started = record {
-  log = started.log;
-  parted = ap (λ (back : List PhoneLine). reverse back ++ all_heard others) started.lines_are ∙ ap all_heard same;
-  at = started.at;
-  rests = started.done;
-}
+starts_loading made others given phone now same started = search (rules, started, ap (λ (back : List PhoneLine). reverse back ++ all_heard others) started.lines_are ∙ ap all_heard same)
 
 pub loads_on : (made : List HandsetLine) (given : Beginning) (before others : List HandsetLine) (line : HandsetLine) (phone phone_then : Kept) (from to : Moment) → before ≡ line ∷ others
     → (loading : IsLoading made given before phone from) → Rests given (Hears line ∷ lines_back loading.log) phone_then to → IsLoading made given others phone_then to
-loads_on made given before others line phone phone_then from to taken loading further = record {
-  log = further.log;
-  parted = ap (λ (back : List PhoneLine). reverse back ++ all_heard others) further.lines_are ∙ told_more (lines_back loading.log) line others
-      ∙ ap (λ (l : List HandsetLine). log_lines loading.log ++ all_heard l) (sym taken) ∙ loading.parted;
-  at = further.at;
-  rests = further.done;
-}
+loads_on made given before others line phone phone_then from to taken loading further =
+    search (rules, further, ap (λ (back : List PhoneLine). reverse back ++ all_heard others) further.lines_are ∙ told_more (lines_back loading.log) line others ∙ ap (λ (l : List HandsetLine). log_lines loading.log ++ all_heard l) (sym taken) ∙ loading.parted)
 
 pub fails_amid : (made : List HandsetLine) (given : Beginning) (before others : List HandsetLine) (line : HandsetLine) (phone : Kept) (from to : Moment) → before ≡ line ∷ others
     → (loading : IsLoading made given before phone from) → RunEnds given (Hears line ∷ lines_back loading.log) to ResetFailed → FailsAmid made given to
-fails_amid made given before others line phone from to taken loading ended = record {
-  told = Hears line ∷ lines_back loading.log;
-  others = others;
-  parted = told_more (lines_back loading.log) line others ∙ ap (λ (l : List HandsetLine). log_lines loading.log ++ all_heard l) (sym taken) ∙ loading.parted;
-  ended = ended;
-}
+fails_amid made given before others line phone from to taken loading ended =
+    search (rules, told_more (lines_back loading.log) line others ∙ ap (λ (l : List HandsetLine). log_lines loading.log ++ all_heard l) (sym taken) ∙ loading.parted, ended)
 
 pub fails_at_start : (made : List HandsetLine) (given : Beginning) (now : Moment) → RunEnds given [] now ResetFailed → FailsAmid made given now
 fails_at_start made given now ended = record { told = []; others = made; parted = refl; ended = ended }
@@ -145,13 +131,4 @@ pub counts_run : CountsAreThoseOfTheLines → (made : List HandsetLine) (given :
     → IsLoading made given [] phone (moment parts (Some text) waiting) → IsCountedRun made given counts (moment parts (Some text) waiting)
 counts_run law made given phone parts text waiting counts none are loading =
     let told = sym (append-nil (log_lines loading.log)) ∙ loading.parted in
-    record {
-      log = loading.log;
-      card = loading.at.card;
-      run = loading.at.run;
-      lines_are = told;
-      rests = loading.rests;
-      counts_are = are ∙ ap counted_in (text_is given text (trace loading.log) none loading.at.written) ∙ law (map entry_line (trace loading.log));
-      stands = stands_seen parts (Some text) waiting loading.at.card (shown loading.log) loading.at.seen loading.at.rests;
-      counted = subst (λ (l : List Plan). IsCounted given.meter parts.meter l (shown loading.log)) (plans_nothing made loading.log told) loading.at.counted;
-    }
+    search (rules, loading, told, are ∙ ap counted_in (text_is given text (trace loading.log) none loading.at.written) ∙ law (map entry_line (trace loading.log)), stands_seen parts (Some text) waiting loading.at.card (shown loading.log) loading.at.seen loading.at.rests, subst (λ (l : List Plan). IsCounted given.meter parts.meter l (shown loading.log)) (plans_nothing made loading.log told) loading.at.counted)

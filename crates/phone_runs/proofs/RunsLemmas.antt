@@ -1,14 +1,14 @@
 -- From one event of a run to the next, by what is known of the card.
-use Rattle.std.proofs.Common.{◌≡◌, ℕ, List, [], ◌∷◌, ◌++◌, Option, Err, refl, sym, ap, ◌∙◌, subst, inl, inr, reverse, Ok}
-use Rattle.std.specs.Io.KnownBytes.{append_known}
+use Rattle.std.proofs.Common.{◌≡◌, ℕ, List, [], ◌∷◌, ◌++◌, Option, Err, refl, sym, ap, ◌∙◌, subst, inl, inr, reverse, Ok, rules}
 use Rattle.std.proofs.lemmas.List.{append-nil, reverse-append}
 use Rattle.std.proofs.lemmas.List.Concat.{flat_map-append}
+use Rattle.std.specs.Io.KnownBytes.{append_known}
 use Rattle.uicc_types.specs.declared.answers.Answer.{Answer}
 use Rattle.uicc_types.specs.declared.plans.Plan.{Plan}
 use Rattle.uicc_types.specs.declared.plans.TheConstants.Plan.{NONE}
 use Rattle.uicc_types.specs.declared.runs.Step.{Step}
-use Rattle.uicc_types.specs.declared.runs.Step.TheVariants as step
 use Rattle.uicc_types.specs.declared.runs.TraceItem.{TraceItem}
+use Rattle.uicc_types.specs.declared.runs.Step.TheVariants as step
 use Rattle.uicc_types.specs.declared.runs.TraceItem.TheVariants as item
 use Rattle.t0_link.specs.declared.endpoint.LinkFault.TheVariants.{PowerLost, NoPower}
 use Rattle.script_form.specs.declared.handset.HandsetLine.{HandsetLine}
@@ -25,16 +25,16 @@ use Rattle.handset_model.specs.declared.known.Duty.{Duty}
 use Rattle.handset_model.specs.declared.known.Duty.TheVariants.{Rest, Transmit, Show, ResetCard}
 use Rattle.terminal_side.specs.Kept.{Kept, kept}
 use Rattle.run_steps.specs.Ends.{End, moment_at}
-use Rattle.run_steps.proofs.SteppingLemmas.{ToldFront, still_shows, taken_none, told_more}
-use Rattle.run_steps.proofs.ViewLemmas.{rests_then, steps_nowhere, steps_one, steps_then}
 use Rattle.run_steps.specs.Runs.{text_of}
 use Rattle.run_steps.specs.Stepping.{BreaksOff, Holds, IsSeen, Moment}
 use Rattle.run_steps.specs.Taking.{Outcome, BreaksStep, EndsStep, GivesReset, Rests, TakesShowing, exchanged, restarted_by, seen as seen_of}
 use Rattle.run_steps.specs.Views.{CardView, StepsShow}
 use Rattle.run_steps.specs.declared.steps.Restarted.{Restarted as AReset}
-use Rattle.run_steps.specs.declared.steps.Restarted.TheVariants as ended
 use Rattle.run_steps.specs.declared.steps.StepEnd.{StepEnd}
 use Rattle.run_steps.specs.declared.steps.StepEnd.TheVariants.{SinkFailed, ResetFailed}
+use Rattle.run_steps.proofs.SteppingLemmas.{ToldFront, still_shows, taken_none, told_more}
+use Rattle.run_steps.proofs.ViewLemmas.{rests_then, steps_nowhere, steps_one, steps_then}
+use Rattle.run_steps.specs.declared.steps.Restarted.TheVariants as ended
 use Rattle.phone_runs.specs.Logs.{Arms, Event, Happens, Plans, AreInTurn, cut_steps, history, lines_back, shown, steps, steps_back, trace}
 use Rattle.phone_runs.specs.Playing.{Begins}
 use Rattle.phone_runs.specs.Runs.{Beginning, BreaksIn, BreaksInStep, BreaksSo, RunEnds, FailsSo, IsPhoneRun, entries_text, entry_text, note_line}
@@ -84,59 +84,21 @@ pub reaches_by : CountsJoin → PlansAreSetInOrder → (given : Beginning) (log 
 reaches_by join order given log later step items phone mid from to goes keeps takes at =
     let showing = takes at.card at.seen in
     let taken = showing.taken in
-    record {
-      card = taken.card;
-      run = runs_on given.first at.card taken.card log later step items at.run goes
-          (subst (λ i. StepsShow at.card (step ∷ []) i taken.card) showing.shows (steps_one at.card taken.card step taken.shown taken.gives));
-      keeps = keeps;
-      seen = taken.seen;
-      written = told_more given.before from.taken to.taken (entries_text (trace log)) (text_of taken.shown) taken.written at.written
-          ∙ ap (append_known given.before) (ap (λ i. entries_text (trace log) ++ text_of i) showing.shows ∙ sym goes.text_is);
-      counted = subst (λ s. IsCounted given.meter to.meter (plan_given s) (shown later)) (sym goes.steps_are)
-          (subst (λ i. IsCounted given.meter to.meter (plan_given (steps log ++ step ∷ [])) i) (ap (λ i. shown log ++ i) showing.shows ∙ sym goes.shown_is)
-          (subst (λ l. IsCounted given.meter to.meter l (shown log ++ taken.shown)) (plans_behind order (steps log) step from.waiting at.waits)
-          (join given.meter from.meter to.meter (plan_given (steps log)) (armed_after from.waiting (step ∷ [])) (shown log) taken.shown at.counted taken.counted)));
-      waits = taken.waits ∙ waiting_behind order (steps log) step from.waiting at.waits ∙ ap (λ s. waiting_after NONE s) (sym goes.steps_are);
-      rests = subst (λ (i : List TraceItem). Rests taken.card i to.is_due) (ap (λ i. shown log ++ i) showing.shows ∙ sym goes.shown_is)
-          (rests_then at.card taken.card (step ∷ []) (shown log) taken.shown from.is_due to.is_due (steps_one at.card taken.card step taken.shown taken.gives) at.rests taken.rests);
-    }
+    search (rules, taken, runs_on given.first at.card taken.card log later step items at.run goes (subst (λ i. StepsShow at.card (step ∷ []) i taken.card) showing.shows (steps_one at.card taken.card step taken.shown taken.gives)), keeps, told_more given.before from.taken to.taken (entries_text (trace log)) (text_of taken.shown) taken.written at.written ∙ ap (append_known given.before) (ap (λ i. entries_text (trace log) ++ text_of i) showing.shows ∙ sym goes.text_is), subst (λ s. IsCounted given.meter to.meter (plan_given s) (shown later)) (sym goes.steps_are) (subst (λ i. IsCounted given.meter to.meter (plan_given (steps log ++ step ∷ [])) i) (ap (λ i. shown log ++ i) showing.shows ∙ sym goes.shown_is) (subst (λ l. IsCounted given.meter to.meter l (shown log ++ taken.shown)) (plans_behind order (steps log) step from.waiting at.waits) (join given.meter from.meter to.meter (plan_given (steps log)) (armed_after from.waiting (step ∷ [])) (shown log) taken.shown at.counted taken.counted))), taken.waits ∙ waiting_behind order (steps log) step from.waiting at.waits ∙ ap (λ s. waiting_after NONE s) (sym goes.steps_are), subst (λ (i : List TraceItem). Rests taken.card i to.is_due) (ap (λ i. shown log ++ i) showing.shows ∙ sym goes.shown_is) (rests_then at.card taken.card (step ∷ []) (shown log) taken.shown from.is_due to.is_due (steps_one at.card taken.card step taken.shown taken.gives) at.rests taken.rests))
 
 -- a step was the last
 fails_by : CountsJoin → PlansAreSetInOrder → (given : Beginning) (log : List Event) (phone : Kept) (from to : Moment) → asked (history log) ≡ ResetCard
     → ((old : CardView) → IsSeen old from → EndsStep old step.Reset from to) → IsAt given log phone from → FailsSo given (lines_back log) to
 fails_by join order given log phone from to resets ends at =
     let last = ends at.card at.seen in
-    record {
-      log = log;
-      old = at.card;
-      lines_are = refl;
-      run = at.run;
-      resets = resets;
-      card = last.card;
-      last = last.shown;
-      ends = last.ends;
-      stands = last.stands;
-      written = told_more given.before from.taken to.taken (entries_text (trace log)) (text_of last.shown) last.written at.written;
-      counted = subst (λ l. IsCounted given.meter to.meter l (shown log ++ last.shown)) (plans_behind order (steps log) step.Reset from.waiting at.waits)
-          (join given.meter from.meter to.meter (plan_given (steps log)) (armed_after from.waiting (step.Reset ∷ [])) (shown log) last.shown at.counted last.counted);
-    }
+    search (rules, at, resets, last, told_more given.before from.taken to.taken (entries_text (trace log)) (text_of last.shown) last.written at.written, subst (λ l. IsCounted given.meter to.meter l (shown log ++ last.shown)) (plans_behind order (steps log) step.Reset from.waiting at.waits) (join given.meter from.meter to.meter (plan_given (steps log)) (armed_after from.waiting (step.Reset ∷ [])) (shown log) last.shown at.counted last.counted))
 
 -- the sink failed in a step
 breaks_by : CountsJoin → (given : Beginning) (log : List Event) (phone : Kept) (step : Step) (from to : Moment)
     → ((old : CardView) → IsSeen old from → BreaksStep old step from to) → (at : IsAt given log phone from) → BreaksInStep given log at.card step to
 breaks_by join given log phone step from to breaks at =
     let broken = breaks at.card at.seen in
-    record {
-      card = broken.card;
-      pending = broken.pending;
-      front = broken.front;
-      set = broken.set;
-      broken = subst (λ w. BreaksOff at.card step broken.pending (armed_after w (step ∷ [])) broken.set broken.card) at.waits broken.broken;
-      cut_off = broken.cut_off;
-      stands = broken.stands;
-      written = told_more given.before from.taken to.taken (entries_text (trace log)) broken.front broken.written at.written;
-      counted = join given.meter from.meter to.meter (plan_given (steps log)) broken.set (shown log) broken.pending at.counted broken.counted;
-    }
+    search (rules, broken, subst (λ w. BreaksOff at.card step broken.pending (armed_after w (step ∷ [])) broken.set broken.card) at.waits broken.broken, told_more given.before from.taken to.taken (entries_text (trace log)) broken.front broken.written at.written, join given.meter from.meter to.meter (plan_given (steps log)) broken.set (shown log) broken.pending at.counted broken.counted)
 
 broken_at : (given : Beginning) (log : List Event) (old : CardView) (now : Moment) (duty : Duty) → asked (history log) ≡ duty → IsPhoneRun given.first log old → BreaksIn given log old now duty → BreaksSo given (lines_back log) now
 broken_at given log old now duty is run broken = record { log = log; old = old; lines_are = refl; run = run; broken = subst (λ d. BreaksIn given log old now d) (sym is) broken }
@@ -334,25 +296,12 @@ plans_so order given log plan phone now rest at = record {
 
 pub plans_further : PlansAreSetInOrder → (given : Beginning) (log : List Event) (plan : Plan) (phone : Kept) (from to : End) (taken : Option (List ℕ)) → asked (history log) ≡ Rest → to ≡ record from { waiting = plans_joined from.waiting plan }
     → IsAt given log phone (moment_at from taken) → HandsetRests given (Arms plan ∷ lines_back log) phone (moment_at to taken)
-plans_further order given log plan phone from to taken rest joins at = record {
-  log = Plans plan ∷ log;
-  lines_are = refl;
-  at = subst (λ (e : End). IsAt given (Plans plan ∷ log) phone (moment_at e taken)) (sym joins) (plans_so order given log plan phone (moment_at from taken) rest at);
-  done = rest;
-}
+plans_further order given log plan phone from to taken rest joins at =
+    search (rules, subst (λ (e : End). IsAt given (Plans plan ∷ log) phone (moment_at e taken)) (sym joins) (plans_so order given log plan phone (moment_at from taken) rest at), rest)
 
 -- a handset that keeps the same
 pub keeps_same : (given : Beginning) (log : List Event) (old new : Kept) (now : Moment) → new ≡ kept (history log) → IsAt given log old now → IsAt given log new now
-keeps_same given log old new now keeps at = record {
-  card = at.card;
-  run = at.run;
-  keeps = keeps;
-  seen = at.seen;
-  written = at.written;
-  counted = at.counted;
-  waits = at.waits;
-  rests = at.rests;
-}
+keeps_same given log old new now keeps at = search (rules, at, keeps)
 
 -- nothing has happened yet
 pub begins_empty : (given : Beginning) (phone : Kept) (now : Moment) → phone ≡ kept [] → Begins given now → IsAt given [] phone now

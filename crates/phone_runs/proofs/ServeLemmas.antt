@@ -1,5 +1,5 @@
 -- What comes of one thing that a handset asks for.
-use Rattle.std.proofs.Common.{◌≡◌, ℕ, List, ◌∷◌, Option, Some, None, Err, refl, sym, ap, ◌∙◌, subst}
+use Rattle.std.proofs.Common.{◌≡◌, ℕ, List, ◌∷◌, Option, Some, None, Err, refl, sym, ap, ◌∙◌, subst, rules}
 use Rattle.std.specs.Io.KnownBytes.{append_known}
 use Rattle.uicc_types.specs.Told.{Becomes}
 use Rattle.uicc_types.specs.declared.answers.Answer.{Answer}
@@ -85,12 +85,7 @@ pub record SentSo (h : List Happened) (apdu : List ℕ) (mid : Kept) : Type 0 wh
 pub sent_so : (old mid : Kept) (found : Option PhoneStep) (apdu : List ℕ) (h : List Happened) → IsAskedOf old mid found → found ≡ Some (step.Send apdu) → old ≡ kept h → SentSo h apdu mid
 sent_so old mid found apdu h asking is keeps =
     let send = is_send h apdu (sym (asking.item h keeps) ∙ is) in
-    record {
-      command = send.command;
-      asked_is = send.asked_is;
-      bytes = send.bytes;
-      keeps = asking.after h keeps ∙ ap kept (next_is h (Transmit send.command) send.asked_is);
-    }
+    search (rules, send, asking.after h keeps ∙ ap kept (next_is h (Transmit send.command) send.asked_is))
 
 pub sent_further : CountsJoin → PlansAreSetInOrder → (old mid new : Kept) (found : Option PhoneStep) (apdu : List ℕ) (outcome : Outcome) (answer : Answer) (given : Beginning) (log : List Event) (from to : Moment)
     → IsAskedOf old mid found → found ≡ Some (step.Send apdu) → ((h : List Happened) → mid ≡ kept h → new ≡ kept (replied outcome answer ∷ h))

@@ -1,5 +1,5 @@
 -- What the sink has taken of a TPDU's lines.
-use Rattle.std.proofs.Common.{◌≡◌, ℕ, List, [], ◌∷◌, ◌++◌, Option, refl, sym, ap, ◌∙◌, inl, inr}
+use Rattle.std.proofs.Common.{◌≡◌, ℕ, List, [], ◌∷◌, ◌++◌, Option, refl, sym, ap, ◌∙◌, inl, inr, rules}
 use Rattle.std.specs.Io.KnownBytes.{append_known}
 use Rattle.uicc_types.specs.Told.{Becomes}
 use Rattle.uicc_types.specs.declared.answers.Answer.{Answer}
@@ -13,28 +13,18 @@ use Rattle.card_model.specs.Runs.{armed_after}
 use Rattle.run_steps.specs.Ends.{End, moment_at}
 use Rattle.run_steps.specs.TakingTpdus.{BreaksTpdu, Delivers, TakesTpdu}
 use Rattle.run_steps.specs.Tpdus.{steps_of, shown_for}
-use Rattle.run_steps.proofs.SteppingLemmas.{holds_seen, idle_counted, in_one_line, text_of_one, text_of_two, told_front, told_more}
 use Rattle.run_steps.specs.Runs.{item_text}
 use Rattle.run_steps.specs.Taking.{machine_of}
 use Rattle.run_steps.specs.Stepping.{IsSeenBy}
 use Rattle.run_steps.specs.Views.{CardView}
+use Rattle.run_steps.proofs.SteppingLemmas.{holds_seen, idle_counted, in_one_line, text_of_one, text_of_two, told_front, told_more}
 
 module _ (tpdu : List ℕ) (old : CardView) (course : Course) (keeps kept : Option Answer) where
   -- both lines were written
   pub takes : (from to : End) (taken mid now : Option (List ℕ)) (reply : TraceItem) → Delivers old course reply kept from to
       → mid ≡ append_known taken (trace_text (line.Command tpdu)) → now ≡ append_known mid (item_text reply) → TakesTpdu old tpdu course kept (moment_at from taken) (moment_at to now)
-  takes from to taken mid now reply delivered command replied = record {
-    card = delivered.card;
-    own = delivered.own;
-    reply = reply;
-    seen = delivered.seen;
-    gives = delivered.gives;
-    written = told_more taken mid now (item_text (item.Command tpdu)) (item_text reply) replied command ∙ ap (append_known taken) (text_of_two (item.Command tpdu) reply);
-    counted = delivered.counted;
-    back = delivered.back;
-    waits = delivered.waits;
-    rests = delivered.rests;
-  }
+  takes from to taken mid now reply delivered command replied =
+      search (rules, delivered, told_more taken mid now (item_text (item.Command tpdu)) (item_text reply) replied command ∙ ap (append_known taken) (text_of_two (item.Command tpdu) reply))
 
   -- the sink failed in the second line
   pub breaks_reply : (from to : End) (taken mid now : Option (List ℕ)) (reply : TraceItem) → Delivers old course reply kept from to

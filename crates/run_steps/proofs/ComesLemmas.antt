@@ -22,10 +22,10 @@ use Rattle.run_steps.proofs.SendsLemmas.{bare_reply, sends_off}
 use Rattle.run_steps.proofs.DeliversLemmas.{off_counted}
 use Rattle.run_steps.proofs.ItemOfLemmas.{IsShownAs, IsShownAsOne, command_shown, counted_over, cut, cut_over, failed}
 use Rattle.run_steps.proofs.SteppingLemmas.{idle_counted}
+use Rattle.run_steps.proofs.StandingLemmas.{machine_is}
 use Rattle.run_steps.specs.Ends.{Comes, End, Meets, MeetsAnswer, MeetsCut, end_words}
 use Rattle.run_steps.specs.Runs.{is_calm}
 use Rattle.run_steps.specs.Taking.{machine_of, Sends, seen}
-use Rattle.run_steps.proofs.StandingLemmas.{machine_is}
 use Rattle.run_steps.specs.Views.{IsBare, IsReply}
 use Rattle.run_steps.specs.Tpdus.{item_of, shown_over}
 use Rattle.run_steps.specs.Stepped.{without_bytes, GivesOwnStep, LinkChangesNoStep}

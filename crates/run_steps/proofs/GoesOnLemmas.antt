@@ -1,5 +1,5 @@
 -- Runs after runs, and what is seen of them.
-use Rattle.std.proofs.Common.{◌≡◌, Bool, true, List, [], ◌∷◌, ◌++◌, refl, sym, ap, ◌∙◌, append_assoc, subst, inl, inr, append-nil}
+use Rattle.std.proofs.Common.{◌≡◌, Bool, true, List, [], ◌∷◌, ◌++◌, refl, sym, ap, ◌∙◌, append_assoc, subst, inl, inr, append-nil, rules}
 use Rattle.std.proofs.lemmas.List.Concat.{flat_map-append}
 use Rattle.uicc_types.specs.declared.runs.Step.{Step}
 use Rattle.uicc_types.specs.declared.runs.TraceItem.{TraceItem}
@@ -16,14 +16,8 @@ run_same old new more none items middle nothing same run =
 -- one run after another
 pub run_then : (first more : List Step) (old middle new : Machine) (items others : List TraceItem) → GoesOn old first items middle → GoesOn middle more others new → GoesOn old (first ++ more) (items ++ others) new
 run_then [] more old middle new items others run rest = run_same old new more items others middle run.seen run.stays rest
-run_then (step ∷ first) more old middle new items others run rest = record {
-  front = run.front;
-  middle = run.middle;
-  back = run.back ++ others;
-  first = run.first;
-  rest = run_then first more run.middle middle new run.back others run.rest rest;
-  seen = ap (λ shown. shown ++ others) run.seen ∙ append_assoc run.front run.back others;
-}
+run_then (step ∷ first) more old middle new items others run rest =
+    search (rules, run, run_then first more run.middle middle new run.back others run.rest rest, ap (λ shown. shown ++ others) run.seen ∙ append_assoc run.front run.back others)
 
 -- a run of one step
 pub run_one : (old new : Machine) (step : Step) (items : List TraceItem) → StepGives old step items new → GoesOn old (step ∷ []) items new
@@ -70,14 +64,8 @@ shows_same on between after more none items nothing same may =
 
 pub shows_then : (first more : List Step) (on between after : Bool) (items others : List TraceItem) → MayShowAll on first items between → MayShowAll between more others after → MayShowAll on (first ++ more) (items ++ others) after
 shows_then [] more on between after items others may rest = shows_same on between after more items others may.0 may.1 rest
-shows_then (step ∷ first) more on between after items others may rest = record {
-  front = may.front;
-  between = may.between;
-  back = may.back ++ others;
-  first = may.first;
-  rest = shows_then first more may.between between after may.back others may.rest rest;
-  seen = ap (λ shown. shown ++ others) may.seen ∙ append_assoc may.front may.back others;
-}
+shows_then (step ∷ first) more on between after items others may rest =
+    search (rules, may, shows_then first more may.between between after may.back others may.rest rest, ap (λ shown. shown ++ others) may.seen ∙ append_assoc may.front may.back others)
 
 pub shows_one : (on after : Bool) (step : Step) (items : List TraceItem) → MayShow on step items after → MayShowAll on (step ∷ []) items after
 shows_one on after step items may = record { front = items; between = after; back = []; first = may; rest = (refl, refl); seen = sym (append-nil items) }

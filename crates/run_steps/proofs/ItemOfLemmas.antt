@@ -1,5 +1,5 @@
 -- A link shows a failure of the card's memory, and a loss of power, as one, and keeps none.
-use Rattle.std.proofs.Common.{◌≡◌, ℕ, ◌+◌, ◌*◌, ◌≤◌, ◌<◌, Bool, true, false, List, [], ◌∷◌, length, Option, Some, None, refl, sym, ap, ◌∙◌, arith, mod-lt, ◌/◌, ◌%◌, ◌==◌, cond, count_by, if◌then◌else◌}
+use Rattle.std.proofs.Common.{◌≡◌, ℕ, ◌+◌, ◌*◌, ◌≤◌, ◌<◌, Bool, true, false, List, [], ◌∷◌, length, Option, Some, None, refl, sym, ap, ◌∙◌, arith, mod-lt, ◌/◌, ◌%◌, ◌==◌, cond, count_by, if◌then◌else◌, rules}
 use Rattle.std.proofs.lemmas.Bool.{eqb-true, false≢true, ne_eqb}
 use Rattle.std.specs.Prelude.{⊤}
 use Rattle.uicc_types.specs.Counts.{Meter, raised_by}
@@ -205,11 +205,5 @@ cuts_of_one shown = omega arith
 
 -- as many are counted where another line shows as many
 pub counted_over : (old new : Meter) (plans : List Plan) (shown other : TraceItem) → failed other ≡ failed shown → cut other ≡ cut shown → IsCounted old new plans (shown ∷ []) → IsCounted old new plans (other ∷ [])
-counted_over old new plans shown other fails cuts counted = record {
-  failures = counted.failures ∙ ap (λ (times : ℕ). raised_by times old.faults) (failures_of_one shown ∙ sym fails ∙ sym (failures_of_one other));
-  cuts = counted.cuts ∙ ap (λ (times : ℕ). raised_by times old.cuts) (cuts_of_one shown ∙ sym cuts ∙ sym (cuts_of_one other));
-  plans = counted.plans;
-  latest = counted.latest;
-  in_force = counted.in_force;
-  settings = counted.settings;
-}
+counted_over old new plans shown other fails cuts counted =
+    search (rules, counted.failures ∙ ap (λ (times : ℕ). raised_by times old.faults) (failures_of_one shown ∙ sym fails ∙ sym (failures_of_one other)), counted.cuts ∙ ap (λ (times : ℕ). raised_by times old.cuts) (cuts_of_one shown ∙ sym cuts ∙ sym (cuts_of_one other)), counted)

@@ -3,15 +3,15 @@ use Rattle.std.proofs.Common.{◌≡◌, ℕ, ◌≤◌, Bool, false, List, [], 
 use Rattle.uicc_types.specs.declared.answers.StatusWord.{StatusWord}
 use Rattle.uicc_types.specs.declared.answers.TheConstants.StatusWord.{WRONG_LENGTH}
 use Rattle.apdu_form.specs.Model.{Apdu, command_in, cut_to}
-use Rattle.file_model.specs.Chains.{given, and_given}
 use Rattle.apdu_form.specs.Classes.{family}
+use Rattle.file_model.specs.Chains.{given, and_given}
 use Rattle.card_model.specs.Answers.{Answered, refused, carried_with, cut_answer, settled, tried, with_pending, answer_of}
-use Rattle.card_model.proofs.TriedLemmas.{cut_result}
 use Rattle.card_model.specs.Chained.{Any}
 use Rattle.card_model.specs.Instructions.{instruction_tried, has_toolkit}
-use Rattle.card_model.proofs.RowNamedLemmas.{IsNamed, named_so, instruction_so}
 use Rattle.card_model.specs.States.{CardState}
 use Rattle.card_model.specs.declared.instructions.Instruction.{Instruction}
+use Rattle.card_model.proofs.TriedLemmas.{cut_result}
+use Rattle.card_model.proofs.RowNamedLemmas.{IsNamed, named_so, instruction_so}
 use Rattle.card_core.proofs.ActsAsLemmas.{cut_nothing}
 use Rattle.run_steps.specs.Le.{without_le, looks_at_le, asks_by_le}
 use Rattle.run_steps.proofs.LooksAtLeLemmas.{carried_with_alike}

@@ -1,10 +1,10 @@
 -- What the link passes for a command, beside the command's own bytes: the card answers both alike, but for the cut to Le.
 use Rattle.std.proofs.Common.{◌≡◌, inl, inr, ℕ, ◌<◌, ◌≤◌, Bool, true, false, List, [], ◌∷◌, ◌++◌, length, Option, Some, None, refl, sym, ◌∙◌, ap, subst, arith, ◌≢◌, ◌^◌, ◌/◌, ◌%◌, ◌==◌, ◌&&◌, ◌||◌, not, if◌then◌else◌, is_some, Contains, IfSome, IsTrue, MatchBool}
-use Rattle.std.specs.Prelude.{⊤}
-use Rattle.std.specs.List.{list_all}
 use Rattle.std.proofs.lemmas.Bool.{eqb-false, not-true, and_parts}
 use Rattle.std.proofs.lemmas.List.{length-append, get_or_append_left, take_all}
 use Rattle.std.proofs.Math.Bool.{and-false}
+use Rattle.std.specs.Prelude.{⊤}
+use Rattle.std.specs.List.{list_all}
 use Rattle.uicc_types.specs.Told.{AreBytes}
 use Rattle.uicc_types.specs.declared.answers.Answer.{Answer}
 use Rattle.uicc_types.specs.declared.answers.StatusWord.{StatusWord}
@@ -19,11 +19,11 @@ use Rattle.t0_link.specs.Carrying.{is_carried_by, command_answer, cut_answer_to}
 use Rattle.t0_link.specs.Passing.{IsPlain, GivesAnswer, passed_by, passed_apdu}
 use Rattle.t0_link.proofs.CommandAnswerLemmas.{carried_gives, no_data}
 use Rattle.card_model.specs.Answers.{Answered, cut_answer, answer_of}
-use Rattle.card_model.proofs.RowNamedLemmas.{all_hold}
 use Rattle.card_model.specs.Instructions.{has_toolkit}
 use Rattle.card_model.specs.Laws.{IsKnownStatus, IsStatusOf, statuses, tree_statuses, PlainAnswersAreLawful, IsLawfulAnswer, is_of_tree_named, key_named}
 use Rattle.card_model.specs.States.{CardState, IsGood}
 use Rattle.card_model.specs.declared.instructions.Instruction.{Instruction}
+use Rattle.card_model.proofs.RowNamedLemmas.{all_hold}
 use Rattle.card_laws.specs.Lawful.{IsStatus, toolkit_statuses, IsLawfulWithApplets, AnswersAreLawful as AnswersWithAppletsAreLawful}
 use Rattle.card_core.proofs.ActsAsLemmas.{cut_nothing}
 use Rattle.run_steps.specs.Le.{asks_by_le}

@@ -3,9 +3,9 @@ use Rattle.std.proofs.Common.{◌≡◌, Bool, true, false, Result, Ok, Err, ref
 use Rattle.uicc_types.specs.declared.answers.StatusWord.{StatusWord}
 use Rattle.uicc_types.specs.declared.answers.TheConstants.StatusWord.{WRONG_PARAMETERS}
 use Rattle.apdu_form.specs.Model.{Apdu}
+use Rattle.apdu_form.specs.Classes.{channel_of}
 use Rattle.file_model.specs.declared.commands.ContentsCommand.TheVariants.{ReadBinary, ReadRecord}
 use Rattle.file_model.specs.declared.commands.FileCommand.TheVariants.{Contents}
-use Rattle.file_model.specs.declared.commands.PinCommand.TheVariants as pin
 use Rattle.file_model.specs.Binaries.{binary_file, updating, update_in, binary_updated}
 use Rattle.file_model.specs.Chains.{and_given}
 use Rattle.file_model.specs.Commands.{contents_outcome, file_outcome}
@@ -14,13 +14,13 @@ use Rattle.file_model.specs.Pins.{pin_verified, pin_changed, pin_disabled, pin_e
 use Rattle.file_model.specs.Records.{record_file, record_named, number_to_update, record_updating, record_update_in, record_updated, numbers_matched, number_to_search, searching, search_in, searched, sum_to_write, increasing, increase_in, increased}
 use Rattle.file_model.specs.Selecting.{selecting, file_selected, telling, status_told}
 use Rattle.file_model.specs.Selections.{chosen}
-use Rattle.file_model.specs.declared.tree_commands.TreeCommand.TheVariants as tree
 use Rattle.file_model.specs.TreeCommands.{tree_outcome}
 use Rattle.file_model.specs.Creating.{created}
 use Rattle.file_model.specs.Deleting.{deleted}
 use Rattle.file_model.specs.Resizing.{resized}
-use Rattle.apdu_form.specs.Classes.{channel_of}
 use Rattle.file_model.specs.Channels.{ChannelOutcome, channel_opened, channel_closed, channel_tried}
+use Rattle.file_model.specs.declared.commands.PinCommand.TheVariants as pin
+use Rattle.file_model.specs.declared.tree_commands.TreeCommand.TheVariants as tree
 use Rattle.card_model.specs.Answers.{Answered, managed, selection_on, carried_out, is_status, event_told, carried_with}
 use Rattle.card_model.specs.States.{CardState}
 use Rattle.card_model.specs.Toolkit.{profile_taken, response_taken, envelope_taken, applet_installed, applet_deleted, toolkit_outcome}

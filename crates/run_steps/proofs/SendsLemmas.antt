@@ -1,24 +1,23 @@
 -- What a command and a reset make of a card.
-use Rattle.std.proofs.Common.{◌≡◌, ℕ, Bool, true, false, List, [], ◌∷◌, Option, Some, None, Ok, Err, refl, sym, ap, ◌∙◌, subst, inl, inr, option_map, IfSome, IsSomeAnd, MatchBool, not, ◌==◌, ◌≢◌, ◌⊎◌}
+use Rattle.std.proofs.Common.{◌≡◌, ℕ, Bool, true, false, List, [], ◌∷◌, Option, Some, None, Ok, refl, sym, ap, ◌∙◌, subst, inl, inr, option_map, IfSome, IsSomeAnd, MatchBool, not, ◌==◌, ◌≢◌, ◌⊎◌}
 use Rattle.list_laws.proofs.IfSomeLemmas.{if_some_at}
 use Rattle.uicc_types.specs.Counts.{Caused, Meter}
 use Rattle.uicc_types.specs.declared.answers.Answer.{Answer}
 use Rattle.uicc_types.specs.declared.answers.StatusWord.{StatusWord}
 use Rattle.uicc_types.specs.declared.answers.TheConstants.StatusWord.{MEMORY_PROBLEM}
-use Rattle.uicc_types.specs.declared.runs.Step.TheVariants as step
 use Rattle.uicc_types.specs.declared.runs.TraceItem.{TraceItem}
+use Rattle.uicc_types.specs.declared.runs.Step.TheVariants as step
 use Rattle.uicc_types.specs.declared.runs.TraceItem.TheVariants as item
 use Rattle.card_model.specs.Answers.{answer, passed}
 use Rattle.card_model.specs.Runs.{Commands, IsLeft, MeetsNoPower, StepGives}
 use Rattle.card_model.specs.States.{CardState, Machine, powered, unpowered, restarted}
-use Rattle.card_core.specs.Cards.{card_of}
+use Rattle.card_core.specs.Cards.{card_of, held_by}
 use Rattle.card_core.specs.Moves.{Answers, Fails}
 use Rattle.card_core.specs.Parts.{CardParts}
 use Rattle.run_steps.specs.Runs.{is_calm}
 use Rattle.run_steps.specs.Taking.{machine_of, Resets, Sends}
-use Rattle.run_steps.proofs.StandingLemmas.{card_stands, is_machine, machine_is}
 use Rattle.run_steps.specs.Views.{IsBare, IsReply}
-use Rattle.run_steps.specs.declared.steps.MemoryFailed.{MemoryFailed}
+use Rattle.run_steps.proofs.StandingLemmas.{card_stands, is_machine, machine_is}
 use Rattle.run_steps.specs.declared.steps.Restarted.TheVariants as ended
 
 -- an answer that tells of no failing memory
@@ -130,5 +129,5 @@ resets_on from to old is moved on rests = (is_machine to (restarted old.card) tr
 pub resets_off : (from to : CardParts) (old : Machine) → machine_of from ≡ Some old → card_of to ≡ option_map restarted (card_of from) → to.is_on ≡ false → Resets (Ok ended.Cut) old to
 resets_off from to old is moved off = is_machine to (restarted old.card) false (restarts_of from to old is moved) off
 
-pub resets_failed : (failed : MemoryFailed) (from to : CardParts) (old : Machine) → machine_of from ≡ Some old → card_of to ≡ option_map restarted (card_of from) → Resets (Err failed) old to
-resets_failed failed from to old is moved = card_stands to (restarted old.card) (restarts_of from to old is moved)
+pub resets_failed : (from to : CardParts) (old : Machine) → machine_of from ≡ Some old → card_of to ≡ option_map restarted (card_of from) → held_by to ≡ Some (restarted old.card).persistent
+resets_failed from to old is moved = card_stands to (restarted old.card) (restarts_of from to old is moved)

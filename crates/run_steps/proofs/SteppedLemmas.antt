@@ -1,13 +1,13 @@
 -- Each step that a card takes by what the link passes for a command is one that it takes by the command itself.
-use Rattle.std.proofs.Common.{◌≡◌, ◌∙◌, ℕ, ◌+◌, Bool, true, false, cond, List, [], ◌∷◌, Option, refl, sym, ap, subst, inl, inr, MatchBool, count_by, map}
+use Rattle.std.proofs.Common.{◌≡◌, ◌∙◌, ℕ, ◌+◌, Bool, true, false, cond, List, [], ◌∷◌, Option, refl, sym, ap, subst, inl, inr, MatchBool, count_by, map, rules}
 use Rattle.std.proofs.lemmas.List.Sums.{sum_by-cons}
 use Rattle.uicc_types.specs.Counts.{Meter, raised_by}
 use Rattle.uicc_types.specs.declared.answers.Answer.{Answer}
 use Rattle.uicc_types.specs.declared.answers.StatusWord.{StatusWord}
 use Rattle.uicc_types.specs.declared.answers.TheConstants.StatusWord.{MEMORY_PROBLEM}
 use Rattle.uicc_types.specs.declared.plans.Plan.{Plan}
-use Rattle.uicc_types.specs.declared.runs.Step.TheVariants as step
 use Rattle.uicc_types.specs.declared.runs.TraceItem.{TraceItem}
+use Rattle.uicc_types.specs.declared.runs.Step.TheVariants as step
 use Rattle.uicc_types.specs.declared.runs.TraceItem.TheVariants as item
 use Rattle.t0_link.specs.Linking.{Linked, Course, Answers, Passes, status_alone}
 use Rattle.t0_link.specs.Carrying.{command_answer}
@@ -130,11 +130,5 @@ count_alike : (test : TraceItem → Bool) → ((reply : TraceItem) → test (wit
 count_alike test same items other alike = sym (count_bare test same items) ∙ ap (count_by test) (sym alike) ∙ count_bare test same other
 
 pub counted_alike : (old new : Meter) (plans : List Plan) (items other : List TraceItem) → map without_bytes other ≡ map without_bytes items → IsCounted old new plans items → IsCounted old new plans other
-counted_alike old new plans items other alike counted = record {
-  failures = counted.failures ∙ ap (λ (times : ℕ). raised_by times old.faults) (count_alike is_failure bare_failure items other alike);
-  cuts = counted.cuts ∙ ap (λ (times : ℕ). raised_by times old.cuts) (count_alike is_cut bare_cut items other alike);
-  plans = counted.plans;
-  latest = counted.latest;
-  in_force = counted.in_force;
-  settings = counted.settings;
-}
+counted_alike old new plans items other alike counted =
+    search (rules, counted.failures ∙ ap (λ (times : ℕ). raised_by times old.faults) (count_alike is_failure bare_failure items other alike), counted.cuts ∙ ap (λ (times : ℕ). raised_by times old.cuts) (count_alike is_cut bare_cut items other alike), counted)

@@ -1,5 +1,5 @@
 -- What a step shows, and what the sink has taken of it.
-use Rattle.std.proofs.Common.{◌≡◌, ◌≤◌, ℕ, Bool, true, false, if◌then◌else◌, List, [], ◌∷◌, ◌++◌, Option, Some, None, Result, Ok, Err, refl, sym, ap, ◌∙◌, append_assoc, inl, inr, subst, option_map, arith, append-nil}
+use Rattle.std.proofs.Common.{◌≡◌, ◌≤◌, ℕ, Bool, true, false, if◌then◌else◌, List, [], ◌∷◌, ◌++◌, Option, Some, None, Result, Ok, Err, refl, sym, ap, ◌∙◌, append_assoc, inl, inr, subst, option_map, arith, append-nil, rules}
 use Rattle.std.proofs.lemmas.List.Concat.{flat_map-append}
 use Rattle.std.specs.Io.KnownBytes.{append_known}
 use Rattle.uicc_types.specs.Counts.{Meter, armed as plan_given, names_fault, raised}
@@ -7,8 +7,8 @@ use Rattle.uicc_types.specs.Told.{Becomes, IsFront}
 use Rattle.uicc_types.specs.declared.plans.Plan.{Plan}
 use Rattle.uicc_types.specs.declared.plans.TheConstants.Plan.{NONE}
 use Rattle.uicc_types.specs.declared.runs.Step.{Step}
-use Rattle.uicc_types.specs.declared.runs.Step.TheVariants as step
 use Rattle.uicc_types.specs.declared.runs.TraceItem.{TraceItem}
+use Rattle.uicc_types.specs.declared.runs.Step.TheVariants as step
 use Rattle.uicc_types.specs.declared.runs.TraceItem.TheVariants as item
 use Rattle.byte_streams.specs.Streams.{TakesFront}
 use Rattle.script_form.specs.Traces.{trace_text}
@@ -23,12 +23,12 @@ use Rattle.card_core.specs.Parts.{CardParts}
 use Rattle.card_core.proofs.RestartLemmas.{metered_same}
 use Rattle.run_steps.specs.declared.steps.MemoryFailed.{MemoryFailed}
 use Rattle.run_steps.specs.declared.steps.Restarted.{Restarted}
-use Rattle.run_steps.specs.declared.steps.Restarted.TheVariants as ended
 use Rattle.run_steps.specs.Ends.{Comes, End, TakesReset, disarmed, moment_at, planned, unplanned, with_plan_set, without_plan}
 use Rattle.run_steps.specs.Runs.{ends_calm, is_calm, item_text, line_of, text_of}
 use Rattle.run_steps.specs.Taking.{machine_of, BreaksStep, EndsStep, IsTakenBack, Rests, RestsOn, Sends, TakesShowing, TakesStep, moment, restarted_by, shown_of}
 use Rattle.run_steps.specs.Stepping.{BreaksOff, Holds, IsCutOff, IsSeenBy, Stands}
 use Rattle.run_steps.specs.Views.{CardView, IsReply, ItsPower, Known, LastShows, StepShows, TheCard}
+use Rattle.run_steps.specs.declared.steps.Restarted.TheVariants as ended
 use Rattle.run_steps.proofs.StandingLemmas.{machine_minds, machine_stands}
 
 -- ---- what was taken
@@ -379,15 +379,7 @@ module _ (old : CardView) (from set sent after : End) (taken now : Option (List 
   failed_at failed is ok =
       let takes_so = subst (λ o. TakesReset set.parts o sent.parts) is takes in
       let ended_so = failed_so failed takes_so in
-      record {
-        card = ended_so.card;
-        shown = item.EepromFailed ∷ [];
-        stands = ended_so.stands;
-        ends = ended_so.ends;
-        written = ok ∙ ap (λ l. append_known taken (trace_text l)) (is_line ∙ ap (λ o. line_of (shown_of o)) is) ∙ ap (append_known taken) (sym (text_of_one item.EepromFailed));
-        counted = counted_reset (Err failed) takes_so;
-        back = taken_back from set sent after with_it;
-      }
+      search (rules, ended_so, ok ∙ ap (λ l. append_known taken (trace_text l)) (is_line ∙ ap (λ o. line_of (shown_of o)) is) ∙ ap (append_known taken) (sym (text_of_one item.EepromFailed)), counted_reset (Err failed) takes_so, taken_back from set sent after with_it)
 
   pub broken_at : Becomes (TakesFront (trace_text line_so)) taken now → BreaksStep old step.Reset (moment_at from taken) (moment_at after now)
   broken_at err = broken_by outcome takes (subst (λ l. Becomes (TakesFront (trace_text l)) taken now) is_line err)

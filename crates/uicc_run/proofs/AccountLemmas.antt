@@ -1,9 +1,9 @@
 -- What is told of lines after others, and the run of the card that it is.
-use Rattle.std.proofs.Common.{◌≡◌, List, [], ◌∷◌, ◌++◌, Option, refl, sym, ap, ◌∙◌, append_assoc, subst, append-nil}
+use Rattle.std.proofs.Common.{◌≡◌, List, [], ◌∷◌, ◌++◌, Option, refl, sym, ap, ◌∙◌, append_assoc, subst, append-nil, rules}
 use Rattle.uicc_types.specs.declared.answers.Answer.{Answer}
 use Rattle.uicc_types.specs.declared.runs.Step.{Step}
-use Rattle.uicc_types.specs.declared.runs.Step.TheVariants as step
 use Rattle.uicc_types.specs.declared.runs.TraceItem.{TraceItem}
+use Rattle.uicc_types.specs.declared.runs.Step.TheVariants as step
 use Rattle.t0_link.specs.Linking.{Answers, Course, Passes, link_answer}
 use Rattle.run_steps.proofs.ViewLemmas.{steps_nowhere, steps_one, steps_then}
 use Rattle.run_steps.specs.Tpdus.{CourseGives, steps_of}
@@ -36,15 +36,8 @@ told_same more kept between after old middle new none account nothing_is same st
 pub told_then : (first more : List Deed) (kept between after : Option Answer) (old middle new : CardView) (one two : Account) → AreTold first kept old one between middle → AreTold more between middle two after new
     → AreTold (first ++ more) kept old (joined one two) after new
 told_then [] more kept between after old middle new one two told rest = told_same more kept between after old middle new one two told.account_is told.keeps told.stays rest
-told_then (deed ∷ first) more kept between after old middle new one two told rest = record {
-  first = told.first;
-  others = joined told.others two;
-  between = told.between;
-  middle = told.middle;
-  told = told.told;
-  rest = told_then first more told.between between after told.middle middle new told.others two told.rest rest;
-  account_is = ap (λ (a : Account). joined a two) told.account_is ∙ joined_assoc told.first told.others two;
-}
+told_then (deed ∷ first) more kept between after old middle new one two told rest =
+    search (rules, told, told_then first more told.between between after told.middle middle new told.others two told.rest rest, ap (λ (a : Account). joined a two) told.account_is ∙ joined_assoc told.first told.others two)
 
 -- one thing is told
 pub told_one : (deed : Deed) (kept after : Option Answer) (old new : CardView) (account : Account) → IsTold deed kept old account after new → AreTold (deed ∷ []) kept old account after new

@@ -1,5 +1,5 @@
 -- Runs over devices that are let go, and runs that were not begun.
-use Rattle.std.proofs.Common.{◌≡◌, ◌≢◌, ◌⊎◌, ℕ, ◌+◌, Bool, true, false, List, [], Option, Some, None, refl, sym, ap, ◌∙◌, inl, inr, arith, subst}
+use Rattle.std.proofs.Common.{◌≡◌, ◌≢◌, ◌⊎◌, ℕ, ◌+◌, Bool, true, false, List, [], Option, Some, None, refl, sym, ap, ◌∙◌, inl, inr, arith, subst, rules}
 use Rattle.byte_streams.proofs.ReadingLemmas.{IsTaken-none}
 use Rattle.byte_streams.specs.Streams.{CountsEach}
 use Rattle.byte_streams.specs.declared.limits.TheConstants.{MOST_BYTES}
@@ -82,12 +82,7 @@ module _ {ScriptIsSame MemoryIsSame BoxesAreSame : Type 0} (words : List (List �
   }
 
   loads_begun : (given : Given) (start count : ℕ) → LoadsFrom given false start count words (without over) → LoadsFrom given false start count words over
-  loads_begun given start count told = record {
-    devices = told.devices;
-    words_are = told.words_are;
-    store_is = told.store_is;
-    over = record { memory_is = λ is. absurd (cc); meter_is = new ∙ told.over.meter_is; boxes_are = told.over.boxes_are };
-  }
+  loads_begun given start count told = search (rules, told, new)
 
   keeps_to_scripts : KeepsToScripts words status (without over) (boxless over_then)
   keeps_to_scripts = record {
@@ -98,12 +93,7 @@ module _ {ScriptIsSame MemoryIsSame BoxesAreSame : Type 0} (words : List (List �
   }
 
   outer_causes : HasOuterCauses words status (without over) (boxless over_then) ScriptIsSame
-  outer_causes = record {
-    load_unread = ran.stays.load_unread;
-    statuses = ran.statuses.causes.statuses;
-    source_failed = ran.statuses.causes.source_failed;
-    sink_failed = ran.statuses.causes.sink_failed;
-  }
+  outer_causes = search (rules, ran)
 
   -- all that is owed then, by what it is over a new bench, if it is over one
   pub answers_so : AsksForNone words → RefusesUseless words status (without over) (boxless over_then) → (NameNoImage words → HasRunOnBench words status (without over) (boxless over_then))

@@ -1,12 +1,12 @@
 -- What is told of the same lines twice, from the same card, is one where nothing fails.
 use Rattle.std.proofs.Common.{◌≡◌, ℕ, false, map, reverse, List, [], ◌∷◌, ◌++◌, Option, Some, None, Result, Ok, Err, refl, sym, ap, ◌∙◌, subst, inl, append-nil}
-use Rattle.std.specs.Io.KnownBytes.{append_known}
 use Rattle.std.proofs.lemmas.List.{reverse-reverse}
+use Rattle.std.specs.Io.KnownBytes.{append_known}
 use Rattle.list_laws.proofs.ContainsLemmas.{front_of, back_of}
 use Rattle.uicc_types.specs.declared.answers.Answer.{Answer}
 use Rattle.uicc_types.specs.declared.runs.Step.{Step}
-use Rattle.uicc_types.specs.declared.runs.Step.TheVariants as step
 use Rattle.uicc_types.specs.declared.runs.TraceItem.{TraceItem}
+use Rattle.uicc_types.specs.declared.runs.Step.TheVariants as step
 use Rattle.uicc_types.specs.declared.runs.TraceItem.TheVariants as item
 use Rattle.t0_link.specs.Linking.{Answers, Course, Passes, link_answer}
 use Rattle.script_form.specs.declared.lines.ScriptLine.{ScriptLine}

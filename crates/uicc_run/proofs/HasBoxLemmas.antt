@@ -7,8 +7,8 @@ use Rattle.card_model.specs.States.{HasBox}
 use Rattle.card_core.specs.Openings.{with_all_shelves}
 use Rattle.command_line.specs.Model.{AskForRun, IsRequest}
 use Rattle.command_line.specs.declared.requests.Mode.{Mode}
-use Rattle.command_line.specs.declared.requests.Mode.TheVariants as mode
 use Rattle.command_line.specs.declared.requests.Request.{Request}
+use Rattle.command_line.specs.declared.requests.Mode.TheVariants as mode
 use Rattle.section_lines.specs.RowLaws.{AreOfTheirBoxes, IsOfItsBox}
 use Rattle.uicc_run.specs.Opening.{first_of, IsAskedFor}
 use Rattle.uicc_run.specs.Playing.{Given}

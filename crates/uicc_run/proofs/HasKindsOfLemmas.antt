@@ -17,8 +17,8 @@ use Rattle.card_core.specs.Parts.{CardParts}
 use Rattle.card_core.proofs.RestartLemmas.{had_box}
 use Rattle.run_steps.specs.Ends.{End, moment_at}
 use Rattle.run_steps.specs.Taking.{machine_of, moment}
-use Rattle.run_steps.proofs.StandingLemmas.{machine_is}
 use Rattle.run_steps.specs.Stepping.{Moment}
+use Rattle.run_steps.proofs.StandingLemmas.{machine_is}
 use Rattle.uicc_run.specs.Playing.{HasKindsOf, first_machine}
 
 -- waking keeps the kinds of the boxes

@@ -1,5 +1,5 @@
 -- What a long run comes to.
-use Rattle.std.proofs.Common.{◌≡◌, ◌⊎◌, ℕ, ◌+◌, Bool, true, false, List, [], ◌∷◌, ◌++◌, take, drop, Option, Some, None, Result, Ok, Err, inl, inr, refl, sym, ap, ◌∙◌, subst, IfSome, IsOkAnd, is_some, option_map}
+use Rattle.std.proofs.Common.{◌≡◌, ◌⊎◌, ℕ, ◌+◌, Bool, true, false, List, [], ◌∷◌, ◌++◌, take, drop, Option, Some, None, Result, Ok, Err, inl, inr, refl, sym, ap, ◌∙◌, subst, IfSome, IsOkAnd, is_some, option_map, rules}
 use Rattle.std.proofs.lemmas.List.{drop_more, take-append-drop}
 use Rattle.std.proofs.lemmas.Option.{get_or_from_slice_get, slice_get_within}
 use Rattle.std.proofs.lemmas.List.Elements.{All-contains, All-nil}
@@ -28,20 +28,20 @@ use Rattle.card_core.specs.declared.opening_faults.OpenFault.{OpenFault}
 use Rattle.card_core.specs.declared.opening_faults.OpenFault.TheVariants as fault
 use Rattle.handset_model.specs.Legal.{IsLegal}
 use Rattle.section_lines.specs.RowLaws.{IsOfItsBox}
-use Rattle.section_lines.proofs.RowsHaveBoxesLemmas.{rows_have_boxes}
 use Rattle.section_lines.specs.Script.{then_on, with_lines}
+use Rattle.section_lines.proofs.RowsHaveBoxesLemmas.{rows_have_boxes}
 use Rattle.section_lines.proofs.WithLinesLemmas.{splits, with_lines-append}
 use Rattle.run_steps.proofs.StandingLemmas.{is_machine}
 use Rattle.run_steps.specs.Stepping.{Moment}
 use Rattle.run_steps.specs.Taking.{moment}
+use Rattle.run_steps.specs.Views.{CardView, ItsPower, TheCard}
+use Rattle.run_steps.specs.declared.steps.MemoryFailed.{MemoryFailed as Failure}
 use Rattle.long_runs.specs.LoadLines.{made_lines}
 use Rattle.long_runs.specs.FixedRows.{fixed_rows}
 use Rattle.long_runs.specs.Rows.{IsFirstRefused}
 use Rattle.long_runs.specs.declared.counts.Counts.{Counts}
-use Rattle.run_steps.specs.Views.{CardView, ItsPower, TheCard}
 use Rattle.phone_runs.specs.LoadingLines.{GivesLoad}
 use Rattle.phone_runs.specs.LoadRuns.{all_heard}
-use Rattle.run_steps.specs.declared.steps.MemoryFailed.{MemoryFailed as Failure}
 use Rattle.phone_runs.specs.Laws.{RunsAreLegal, RunsAreOfTheCard}
 use Rattle.phone_runs.specs.Logs.{heard, trace}
 use Rattle.phone_runs.specs.Playing.{Begins}
@@ -73,13 +73,8 @@ load_begins given card mark told meter boxes parts join stands counted boxes_are
 
 -- of its power alone more is not known
 load_begins_with_power : (given : Given) (meter : Meter) (parts : CardParts) → CountsJoin → IsCounted given.meter meter [] [] → parts.is_on ≡ true → Caused meter parts.meter ⊥ ⊥ → Begins (load_beginning given (ItsPower true)) (moment parts (Some []) NONE)
-load_begins_with_power given meter parts join counted on caused = record {
-  seen = on;
-  written = refl;
-  counted = join given.meter meter parts.meter [] [] [] [] counted (caused_counted meter parts.meter caused (λ so. so) (λ so. so));
-  waits = refl;
-  rests = tt;
-}
+load_begins_with_power given meter parts join counted on caused =
+    search (rules, on, join given.meter meter parts.meter [] [] [] [] counted (caused_counted meter parts.meter caused (λ so. so) (λ so. so)))
 
 -- the card was opened, and is known as far as its memory tells
 pub record BeginsLoading (given : Given) (is_told : Bool) (card : Persistent) (parts : CardParts) : Type 0 where
@@ -91,18 +86,10 @@ pub record BeginsLoading (given : Given) (is_told : Bool) (card : Persistent) (p
 pub load_begins_seen : (given : Given) (is_told : Bool) (card : Persistent) (mark : ℕ) (told : Option (List ℕ)) (meter : Meter) (boxes : List (Option AppletState)) (parts : CardParts) → CountsJoin
     → (is_told ≡ true → option_map (stands_for mark) told ≡ Some (Ok card)) → IsCounted given.meter meter [] [] → boxes ≡ given.boxes → card_of parts ≡ opened (standing mark told) boxes → parts.is_on ≡ true → parts.is_due ≡ false → Caused meter parts.meter ⊥ ⊥
     → BeginsLoading given is_told card parts
-load_begins_seen given true card mark told meter boxes parts join stands counted boxes_are is on rests caused = record {
-  first = TheCard (first_machine card given.boxes);
-  known = refl;
-  opened = refl;
-  begins = load_begins given card mark told meter boxes parts join (stands refl) counted boxes_are is on rests caused;
-}
-load_begins_seen given false card mark told meter boxes parts join stands counted boxes_are is on rests caused = record {
-  first = ItsPower true;
-  known = refl;
-  opened = refl;
-  begins = load_begins_with_power given meter parts join counted on caused;
-}
+load_begins_seen given true card mark told meter boxes parts join stands counted boxes_are is on rests caused =
+    search (rules, load_begins given card mark told meter boxes parts join (stands refl) counted boxes_are is on rests caused)
+load_begins_seen given false card mark told meter boxes parts join stands counted boxes_are is on rests caused =
+    search (rules, load_begins_with_power given meter parts join counted on caused)
 
 heard_made : (made : List HandsetLine) → heard (all_heard made) ≡ made
 heard_made [] = refl

@@ -1,5 +1,5 @@
 -- From the lines before `start` to the card that is opened.
-use Rattle.std.proofs.Common.{◌≡◌, ℕ, Bool, true, false, List, [], ◌∷◌, ◌++◌, Option, Some, None, is_some, Result, Ok, Err, refl, sym, ap, ◌∙◌, arith, inl, inr, option_map, subst, ◌⊎◌, IfSome, IsOkAnd}
+use Rattle.std.proofs.Common.{◌≡◌, rules, ℕ, Bool, true, false, List, [], ◌∷◌, ◌++◌, Option, Some, None, is_some, Result, Ok, Err, refl, sym, ap, ◌∙◌, arith, inl, inr, option_map, subst, ◌⊎◌, IfSome, IsOkAnd}
 use Rattle.std.proofs.lemmas.List.Elements.{All-nil}
 use Rattle.std.specs.Result.{result_ok}
 use Rattle.list_laws.proofs.IfSomeLemmas.{if_some_at}
@@ -33,7 +33,6 @@ use Rattle.section_lines.specs.Script.{described, then_on, with_lines}
 use Rattle.run_steps.specs.Taking.{moment}
 use Rattle.run_steps.specs.Views.{CardView, ItsPower, TheCard}
 use Rattle.uicc_run.specs.Playing.{first_machine, Given, IsOpened, Leaves}
-use Rattle.run_steps.proofs.StandingLemmas.{is_machine}
 use Rattle.uicc_run.specs.Endings.{KeepsBytes, IsUnplanned}
 use Rattle.uicc_run.specs.Headline.{Comes, FailsToOpen, HasNoMemory, HoldsStart, IsMigratedAtMost, IsNoCard, IsNotOpened, IsQuiet, LacksBox, is_known}
 use Rattle.uicc_run.specs.Opening.{IsGiven}
@@ -43,31 +42,18 @@ use Rattle.uicc_run.specs.Scripts.{ReachesStart}
 use Rattle.uicc_run.specs.Steps.{may_stand}
 use Rattle.uicc_run.specs.declared.endings.Ending.{Ending}
 use Rattle.uicc_run.specs.declared.endings.Ending.TheVariants.{MemoryFailed, NoMemory}
+use Rattle.run_steps.proofs.StandingLemmas.{is_machine}
 use Rattle.uicc_run.specs.declared.endings.Task.TheVariants as task
 
 -- ---- counts
 
 -- a call that met no fault
 pub caused_counted : {Failed Lost : Type 0} → (old new : Meter) → Caused old new Failed Lost → (Failed → ⊥) → (Lost → ⊥) → IsCounted old new [] []
-caused_counted old new caused no_failure no_loss = record {
-  failures = caused.no_fault no_failure;
-  cuts = caused.no_cut no_loss;
-  plans = caused.plans_kept;
-  latest = caused.latest_kept;
-  in_force = caused.plan_kept;
-  settings = caused.settings_kept;
-}
+caused_counted old new caused no_failure no_loss = search (rules, caused.no_fault no_failure, caused.no_cut no_loss, caused)
 
 -- a call that shows nothing, be there a fault in it or none
 pub caused_kept : {Failed Lost : Type 0} → (old new : Meter) → Caused old new Failed Lost → IsUnplanned old new
-caused_kept old new caused = record {
-  faults_kept = caused.faults_kept;
-  cuts_kept = caused.cuts_kept;
-  plans_kept = caused.plans_kept;
-  latest_kept = caused.latest_kept;
-  plan_kept = caused.plan_kept;
-  settings_kept = caused.settings_kept;
-}
+caused_kept old new caused = search (rules, caused)
 
 -- after what met none
 pub kept_on : {Failed Lost : Type 0} → (first middle last : Meter) → IsCounted first middle [] [] → Caused middle last Failed Lost → IsUnplanned first last

@@ -1,13 +1,13 @@
 -- From one line after `start` to the next, and why the run ends there, by what is known of the card.
-use Rattle.std.proofs.Common.{◌≡◌, ℕ, Bool, true, false, List, [], ◌∷◌, ◌++◌, Option, Some, None, refl, sym, ap, ◌∙◌, append_assoc, subst}
-use Rattle.std.specs.Io.KnownBytes.{append_known}
+use Rattle.std.proofs.Common.{◌≡◌, rules, ℕ, Bool, true, false, List, [], ◌∷◌, ◌++◌, Option, Some, None, refl, sym, ap, ◌∙◌, append_assoc, subst}
 use Rattle.std.proofs.lemmas.List.Elements.{All-push}
+use Rattle.std.specs.Io.KnownBytes.{append_known}
 use Rattle.uicc_types.specs.declared.answers.Answer.{Answer}
 use Rattle.uicc_types.specs.declared.plans.Plan.{Plan}
 use Rattle.uicc_types.specs.declared.plans.TheConstants.Plan.{NONE}
 use Rattle.uicc_types.specs.declared.runs.Step.{Step}
-use Rattle.uicc_types.specs.declared.runs.Step.TheVariants as step
 use Rattle.uicc_types.specs.declared.runs.TraceItem.{TraceItem}
+use Rattle.uicc_types.specs.declared.runs.Step.TheVariants as step
 use Rattle.t0_link.specs.Linking.{link_answer}
 use Rattle.byte_streams.specs.Lines.{LineList}
 use Rattle.script_form.specs.Forms.{IsLine}
@@ -125,18 +125,7 @@ module _ (step : Step) (kept after : Option Answer) (old : CardView) (from to : 
   }
 
   pub step_breaks : BreaksStep old step from to → Breaks (Takes step) kept old from to after
-  step_breaks broken = record {
-    card = broken.card;
-    own = broken.pending;
-    pending = broken.pending;
-    front = broken.front;
-    set = broken.set;
-    broken = (refl, broken.broken);
-    cut_off = broken.cut_off;
-    stands = broken.stands;
-    written = broken.written;
-    counted = broken.counted;
-  }
+  step_breaks broken = search (rules, broken)
 
 -- a TPDU
 module _ (tpdu : List ℕ) (kept after : Option Answer) (old : CardView) (from to : Moment) where
@@ -153,18 +142,7 @@ module _ (tpdu : List ℕ) (kept after : Option Answer) (old : CardView) (from t
   }
 
   pub tpdu_breaks : BreaksTpdu old tpdu (link_answer kept tpdu) kept after from to → Breaks (Transfers tpdu) kept old from to after
-  tpdu_breaks broken = record {
-    card = broken.card;
-    own = broken.own;
-    pending = broken.pending;
-    front = broken.front;
-    set = broken.set;
-    broken = broken.broken;
-    cut_off = broken.cut_off;
-    stands = broken.stands;
-    written = broken.written;
-    counted = broken.counted;
-  }
+  tpdu_breaks broken = search (rules, broken)
 
 -- ---- after the lines before
 
@@ -295,13 +273,8 @@ leaves_so (ItsPower on) own now stands boxes seen rests = tt
 pub ends_playing : (given : Given) (first : CardView) (script : ScriptReader) (left left_then : Option (List ℕ)) (kept : Option Answer) (end : PlayEnd) (now : Moment)
     → ((machine : Machine) → now.machine ≡ Some machine → now.held ≡ Some machine.card.persistent) → ((machine : Machine) → now.machine ≡ Some machine → HaveBoxes now machine)
     → ((found : LineList) → Follows given.text found script left → StopsPlaying given found left_then end) → IsPlaying given first script left kept now → EndsSo given first left_then end (left_at now)
-ends_playing given first script left left_then kept end now stands boxes cause playing = record {
-  done = playing.done;
-  cause = cause playing.done.found playing.follows;
-  written = playing.written;
-  counted = playing.counted;
-  leaves = leaves_so playing.done.card playing.done.account.own now stands boxes playing.seen playing.rests;
-}
+ends_playing given first script left left_then kept end now stands boxes cause playing =
+    search (rules, playing, cause playing.done.found playing.follows, leaves_so playing.done.card playing.done.account.own now stands boxes playing.seen playing.rests)
 
 -- whatever the end is
 pub comes_to_end : (given : Given) (first : CardView) (left : Option (List ℕ)) (end : PlayEnd) (now : Leaves) → EndsSo given first left end now → CardComesTo given first left end now

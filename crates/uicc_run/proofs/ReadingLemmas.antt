@@ -1,7 +1,7 @@
 -- Which lines a run read, and why no more of them: what follows of what it comes to, whatever its memory holds or tells.
-use Rattle.std.proofs.Common.{◌≡◌, ℕ, Bool, true, List, [], ◌∷◌, ◌++◌, Option, sym, append_assoc, subst}
-use Rattle.std.specs.List.{AllPass}
+use Rattle.std.proofs.Common.{◌≡◌, ℕ, Bool, true, List, [], ◌∷◌, ◌++◌, Option, sym, append_assoc, subst, rules}
 use Rattle.std.proofs.lemmas.List.Elements.{All-nil}
+use Rattle.std.specs.List.{AllPass}
 use Rattle.byte_streams.specs.Lines.{LineList, lines}
 use Rattle.script_form.specs.declared.lines.ScriptLine.{ScriptLine}
 use Rattle.script_form.specs.declared.lines.ScriptLine.TheVariants.{Start}
@@ -35,14 +35,7 @@ pub record EndsBehind (given : Given) (left : Option (List ℕ)) (end : PlayEnd)
   pub cause : StopsPlaying given found left end
 
 pub has_started : (IsKnown : List ScriptLine → Option Persistent → Type 0) (given : Given) (told : Bool) (left : Option (List ℕ)) (leaves : Leaves) → IsNotOpened given told left leaves IsKnown → HasStarted given
-has_started IsKnown given told left leaves is = record {
-  found = is.found;
-  more = is.more;
-  section = is.section;
-  card = is.card;
-  parted = is.begins;
-  lines_are = record { read = is.read; described = is.described; in_place = All-nil (λ line. may_stand given.is_served line ≡ true) };
-}
+has_started IsKnown given told left leaves is = search (rules, is, All-nil (λ line. may_stand given.is_served line ≡ true))
 
 -- where the lines went to the card
 abbrev pub reads_played : (given : Given) (first : CardView) (left : Option (List ℕ)) (end : PlayEnd) (leaves : Leaves) → EndsSo given first left end leaves → EndsBehind given left end

@@ -1,5 +1,5 @@
 -- Each status comes of one ending: the others are ruled out by its number or by sound devices, so that the script tells which it is.
-use Rattle.std.proofs.Common.{◌≡◌, ◌≢◌, ◌⊎◌, ◌+◌, ℕ, Bool, true, false, List, Option, Some, arith, refl, sym, ap, ◌∙◌, subst, inl, inr}
+use Rattle.std.proofs.Common.{◌≡◌, ◌≢◌, ◌⊎◌, ◌+◌, ℕ, Bool, true, false, List, Option, Some, arith, refl, sym, ap, ◌∙◌, subst, inl, inr, rules}
 use Rattle.uicc_types.specs.Counts.{Rose}
 use Rattle.byte_streams.proofs.ReadingLemmas.{IsTaken-none}
 use Rattle.byte_streams.proofs.StreamsLemmas.{once, once_at_last, raised_rose}
@@ -28,7 +28,7 @@ use Rattle.uicc_run.proofs.EndsForLemmas.{ends_unbegun}
 use Rattle.uicc_run.proofs.HasBoxLemmas.{is_boxed}
 use Rattle.uicc_run.proofs.LoadingLemmas.{load_completes}
 use Rattle.uicc_run.proofs.OpeningLemmas.{quiet_still}
-use Rattle.uicc_run.proofs.ScriptsLemmas.{Verdict, at_most_8, bad_stops, completes, eight_is_early, eight_is_full, five_is, full_stops, good_ends, not_usage, one_is, own_is, refuses, seven_refuses, seven_starts, six_shows, stops_bad, two_is_bad, verdict, zero_is_good, zero_reads_out}
+use Rattle.uicc_run.proofs.ScriptsLemmas.{Verdict, at_most_8, bad_stops, completes, eight_is_early, five_is, full_stops, good_ends, not_usage, one_is, own_is, refuses, seven_refuses, seven_starts, six_shows, stops_bad, stops_there, verdict, zero_ends}
 use Rattle.uicc_run.proofs.TellsNextLemmas.{closes_tells}
 use Rattle.uicc_run.proofs.TerminalsLemmas.{asks_for_run, serves_to_end, status_low}
 
@@ -52,13 +52,13 @@ module _ (words : List (List ℕ)) (status : ℕ) (before after : World) (ending
     bad_over_any = λ asks sound found bad. bad_stops given false status after.left after.taken found bad (sound_lines given false from asks sound);
     no_room = λ asks sound found full. full_stops given false status after.left after.taken found full (sound_lines given false from asks sound);
     complete_only = λ is.
-        zero_is_good given false status after.left after.taken (lines_of given false from (λ e. omega (arith, is, e)) (λ e. omega (arith, is, e)) (λ e. omega (arith, is, e)) (λ e. omega (arith, is, e))) is;
+        (zero_ends given false status after.left after.taken (lines_of given false from (λ e. omega (arith, is, e)) (λ e. omega (arith, is, e)) (λ e. omega (arith, is, e)) (λ e. omega (arith, is, e))) is).0;
     read_out = λ is.
-        zero_reads_out given false status after.left after.taken (lines_of given false from (λ e. omega (arith, is, e)) (λ e. omega (arith, is, e)) (λ e. omega (arith, is, e)) (λ e. omega (arith, is, e))) is;
+        (zero_ends given false status after.left after.taken (lines_of given false from (λ e. omega (arith, is, e)) (λ e. omega (arith, is, e)) (λ e. omega (arith, is, e)) (λ e. omega (arith, is, e))) is).1;
     bad_line_only = λ is.
-        two_is_bad given false status after.left after.taken (lines_of given false from (λ e. omega (arith, is, e)) (λ e. omega (arith, is, e)) (λ e. omega (arith, is, e)) (λ e. omega (arith, is, e))) is;
+        stops_there false given false status after.left after.taken (lines_of given false from (λ e. omega (arith, is, e)) (λ e. omega (arith, is, e)) (λ e. omega (arith, is, e)) (λ e. omega (arith, is, e))) is;
     no_room_only = λ is.
-        eight_is_full given false status after.left after.taken (lines_of given false from (λ e. omega (arith, is, e)) (λ e. omega (arith, is, e)) (λ e. omega (arith, is, e)) (λ e. omega (arith, is, e))) is;
+        stops_there true given false status after.left after.taken (lines_of given false from (λ e. omega (arith, is, e)) (λ e. omega (arith, is, e)) (λ e. omega (arith, is, e)) (λ e. omega (arith, is, e))) is;
     refused_only = λ is.
         seven_starts given false status after.left after.taken (lines_of given false from (λ e. omega (arith, is, e)) (λ e. omega (arith, is, e)) (λ e. omega (arith, is, e)) (λ e. omega (arith, is, e))) is;
   }
@@ -133,14 +133,7 @@ module _ {ScriptIsSame TraceIsSame StoreIsSame MemoryIsSame BoxesAreSame : Type 
   begins : (given : Given) (told : Bool) → RunsFrom given told words before → BeginsAs given told asked.mode (mark_of asked.devices.pages) (inside asked.devices.pages before)
   begins given told from =
       let wish = from.is_asked asked is.so in
-      record {
-        text_is = from.text_is;
-        others_are = subst (λ p. IsGiven given told before.taken (memory_in p before.contents) before.meter before.boxes) wish.store_is from.others_are;
-        for_card = wish.for_card;
-        first_is = wish.first_is;
-        store_is = ap mark_of wish.store_is;
-        served_is = wish.served_is;
-      }
+      search (rules, from, subst (λ p. IsGiven given told before.taken (memory_in p before.contents) before.meter before.boxes) wish.store_is from.others_are, wish, ap mark_of wish.store_is)
 
   memory_so : (given : Given) (told : Bool) → RunsFrom given told words before → KeepsMemory given ending before put MemoryIsSame
   memory_so given told from =
@@ -171,16 +164,7 @@ module _ {ScriptIsSame TraceIsSame StoreIsSame MemoryIsSame BoxesAreSame : Type 
         record { comes = channels.comes; low = channels.low; memory_kept = same channels.memory_kept; boxes_kept = channels.boxes_kept };
     usage = λ none. absurd (none (asked, is.so));
     usage_only = λ usage. absurd (out.used usage);
-    ends = record {
-      source_cause = out.ends.source_cause;
-      sink_cause = out.ends.sink_cause;
-      memory_cause = out.ends.memory_cause;
-      reset_cause = out.ends.reset_cause;
-      tells = out.ends.tells;
-      unshown = out.ends.unshown;
-      untouched = λ early. same (out.ends.untouched early);
-      boxes = out.ends.boxes;
-    };
+    ends = search (rules, out, same);
   }
 
 -- and then the last line

@@ -1,8 +1,8 @@
 -- What an undisturbed run comes to, by its script and the card that is to be opened.
-use Rattle.std.proofs.Common.{◌≡◌, ℕ, ◌<◌, ◌≤◌, Bool, true, false, List, [], ◌∷◌, ◌++◌, Option, Some, None, is_some, Result, Ok, Err, refl, sym, ap, ◌∙◌, inl, inr, ⊎_elim, arith, subst, ◌⊎◌, All, IfSome, if◌then◌else◌, append-nil}
-use Rattle.std.specs.Io.KnownBytes.{append_known}
+use Rattle.std.proofs.Common.{◌≡◌, ℕ, ◌<◌, ◌≤◌, Bool, true, false, List, [], ◌∷◌, ◌++◌, Option, Some, None, is_some, Result, Ok, Err, refl, sym, ap, ◌∙◌, inl, inr, ⊎_elim, arith, subst, ◌⊎◌, All, IfSome, if◌then◌else◌, append-nil, rules}
 use Rattle.std.proofs.lemmas.Bool.{cases_order}
 use Rattle.std.proofs.lemmas.List.Elements.{All-contains, All-nil}
+use Rattle.std.specs.Io.KnownBytes.{append_known}
 use Rattle.byte_streams.specs.Lines.{LineList, lines}
 use Rattle.byte_streams.specs.Reading.{IsTakenFor}
 use Rattle.script_form.specs.Forms.{IsLine}
@@ -22,8 +22,8 @@ use Rattle.card_model.specs.States.{HasBox, IsGood, Machine}
 use Rattle.card_core.specs.Openings.{with_all_shelves}
 use Rattle.card_core.specs.Boxes.{IsFirstWithoutBox}
 use Rattle.section_lines.specs.RowLaws.{AreOfTheirBoxes}
-use Rattle.section_lines.proofs.RowsHaveBoxesLemmas.{rows_have_boxes}
 use Rattle.section_lines.specs.Script.{with_lines}
+use Rattle.section_lines.proofs.RowsHaveBoxesLemmas.{rows_have_boxes}
 use Rattle.run_steps.specs.Views.{CardView, ItsPower, TheCard}
 use Rattle.phone_runs.specs.Lines.{PhoneEnds}
 use Rattle.bip_runs.proofs.IsLineLemmas.{Only, only_first, only_last, only_says, says_itself}
@@ -31,20 +31,21 @@ use Rattle.uicc_run.specs.Making.{IsUnshown}
 use Rattle.uicc_run.specs.Endings.{IsEarly, refusal_line, status_for}
 use Rattle.uicc_run.specs.Headline.{Closes, Comes, IsNoCard, IsNotOpened, LacksBox, is_known, last_text}
 use Rattle.uicc_run.specs.Playing.{AreReadInPlace, EndsSo, Given, IsFirst, IsOpened, Leaves, first_machine, ComesTo, ServedComesTo, beginning}
-use Rattle.uicc_run.proofs.ReadingLemmas.{EndsBehind, HasStarted, has_started, reads_played, reads_served}
-use Rattle.uicc_run.proofs.TellsNextLemmas.{tells_it, tells_same}
-use Rattle.uicc_run.proofs.ServingLemmas.{opening}
 use Rattle.uicc_run.specs.Steps.{may_stand}
 use Rattle.uicc_run.specs.Scripts.{AreInPlace, CanOpen, CannotOpen, HoldsWholeCard, IsFirstBad, IsFirstTooMuch, IsGoodScript, MeetsBad, ReachesStart, RefusesAndTells, StopsAndTells, StopsAtStart, StopsBefore, StopsBehind, TellsNext, TellsWhy}
 use Rattle.uicc_run.specs.declared.endings.Ending.{Ending}
 use Rattle.uicc_run.specs.declared.endings.Ending.TheVariants.{Usage, NoMemory, Section, MemoryFailed, NoCard, Played, Counted}
-use Rattle.uicc_run.specs.declared.endings.Task.TheVariants as task
 use Rattle.uicc_run.specs.declared.endings.Refusal.{Refusal}
 use Rattle.uicc_run.specs.declared.endings.Refusal.TheVariants.{NotACard, NoApplet}
+use Rattle.uicc_run.proofs.ReadingLemmas.{EndsBehind, HasStarted, has_started, reads_played, reads_served}
+use Rattle.uicc_run.proofs.TellsNextLemmas.{tells_it, tells_same}
+use Rattle.uicc_run.proofs.ServingLemmas.{opening}
 use Rattle.uicc_run.proofs.HasBoxLemmas.{IsBoxed, have_boxes}
 use Rattle.uicc_run.proofs.HasKindsOfLemmas.{boxes_there}
+use Rattle.uicc_run.proofs.EndsForLemmas.{by_status}
 use Rattle.uicc_run.proofs.OpeningLemmas.{none_stays}
 use Rattle.uicc_run.proofs.WithLineLemmas.{Before, Behind, Rules, Stage, Stops, Walks, one_card, one_stop, passes_stop, walks_section, walks_whole, whole_no_stop}
+use Rattle.uicc_run.specs.declared.endings.Task.TheVariants as task
 
 abbrev rules_of : Given → Rules
 rules_of given = record { cast = given.boxes; may = may_stand given.is_served }
@@ -138,17 +139,15 @@ pub record Stopped (given : Given) (status : ℕ) (left taken : Option (List ℕ
   pub tells : TellsNext found taken
   pub reach : IsTakenFor given.text found left
 
-no_zero : (why : Bool) → 0 ≡ stop_status why → ⊥
-no_zero false is = cc
-no_zero true is = cc
+-- and with no other status
+clash : (why : Bool) (status other : ℕ) → status ≡ stop_status why → status ≡ other → (2 ≡ other → ⊥) → (8 ≡ other → ⊥) → ⊥
+clash false status other is so two eight = two (sym is ∙ so)
+clash true status other is so two eight = eight (sym is ∙ so)
 
-why_two : (why : Bool) → 2 ≡ stop_status why → why ≡ false
-why_two false is = refl
-why_two true is = absurd (cc)
-
-why_eight : (why : Bool) → 8 ≡ stop_status why → why ≡ true
-why_eight false is = absurd (cc)
-why_eight true is = refl
+same_why : (why other : Bool) → stop_status why ≡ stop_status other → why ≡ other
+same_why false false is = refl
+same_why true true is = refl
+same_why why other is = absurd (cc)
 
 -- before `start`
 abbrev stopped_before : (given : Given) (why : Bool) (status number : ℕ) (before taken left : Option (List ℕ)) (found : LineList) (section : List ScriptLine) (card : Option Persistent)
@@ -400,55 +399,31 @@ full_stops given known status left taken found before verdict = stops_before giv
 
 -- ---- what a status says of the script
 
-pub zero_is_good : (given : Given) (known : Bool) (status : ℕ) (left taken : Option (List ℕ)) → Verdict given known status left taken → status ≡ 0 → IsGoodScript given
-zero_is_good given known status left taken (inl lacks) is = absurd (omega arith)
-zero_is_good given known status left taken (inr (inl finishes)) is = finishes.0.good
-zero_is_good given known status left taken (inr (inr (inl stopped))) is = absurd (no_zero stopped.0.why (sym is ∙ stopped.0.is))
-zero_is_good given known status left taken (inr (inr (inr refused))) is = let seven = refused.0 in absurd (omega arith)
+-- it is good, and nothing of it is left
+pub zero_ends : (given : Given) (known : Bool) (status : ℕ) (left taken : Option (List ℕ)) → Verdict given known status left taken → status ≡ 0 → IsGoodScript given × (left ≡ Some [])
+zero_ends given known status left taken (inl lacks) is = absurd (omega arith)
+zero_ends given known status left taken (inr (inl finishes)) is = (finishes.0.good, finishes.1)
+zero_ends given known status left taken (inr (inr (inl stopped))) is = absurd (clash stopped.0.why status 0 stopped.0.is is (λ e. omega (arith, e)) (λ e. omega (arith, e)))
+zero_ends given known status left taken (inr (inr (inr refused))) is = let seven = refused.0 in absurd (omega arith)
 
-stop_at : (given : Given) (why wanted : Bool) (found : LineList) → why ≡ wanted → IsStop given why found → IsStop given wanted found
-stop_at given why wanted found same place = subst (λ w. IsStop given w found) same place
+-- it stopped at a line that is so
+pub stops_there : (why : Bool) (given : Given) (known : Bool) (status : ℕ) (left taken : Option (List ℕ)) → Verdict given known status left taken → status ≡ stop_status why → StopsAndTells (IsStop given why) given.text left taken
+stops_there why given known status left taken (inl lacks) is = absurd (clash why status 5 is lacks (λ e. omega (arith, e)) (λ e. omega (arith, e)))
+stops_there why given known status left taken (inr (inl finishes)) is = absurd (clash why status 0 is finishes.0.zero (λ e. omega (arith, e)) (λ e. omega (arith, e)))
+stops_there why given known status left taken (inr (inr (inl stopped))) is =
+    search (rules, stopped, subst (λ w. IsStop given w stopped.0.found) (same_why stopped.0.why why (sym stopped.0.is ∙ is)) stopped.0.place)
+stops_there why given known status left taken (inr (inr (inr refused))) is = absurd (clash why status 7 is refused.0 (λ e. omega (arith, e)) (λ e. omega (arith, e)))
 
-pub two_is_bad : (given : Given) (known : Bool) (status : ℕ) (left taken : Option (List ℕ)) → Verdict given known status left taken → status ≡ 2 → StopsAndTells (IsFirstBad given) given.text left taken
-two_is_bad given known status left taken (inl lacks) is = absurd (omega arith)
-two_is_bad given known status left taken (inr (inl finishes)) is = let zero = finishes.0.zero in absurd (omega arith)
-two_is_bad given known status left taken (inr (inr (inl stopped))) is = record {
-  found = stopped.0.found;
-  is = stop_at given stopped.0.why false stopped.0.found (why_two stopped.0.why (sym is ∙ stopped.0.is)) stopped.0.place;
-  tells = stopped.0.tells;
-  reach = stopped.0.reach;
-}
-two_is_bad given known status left taken (inr (inr (inr refused))) is = let seven = refused.0 in absurd (omega arith)
+-- `start` was read, and a card that can't be opened is refused
+seven_ends : (given : Given) (known : Bool) (status : ℕ) (left taken : Option (List ℕ)) → Verdict given known status left taken → status ≡ 7 → HasStarted given × (known ≡ true → Refused given taken)
+seven_ends given known status left taken (inl lacks) is = absurd (omega arith)
+seven_ends given known status left taken (inr (inl finishes)) is = let zero = finishes.0.zero in absurd (omega arith)
+seven_ends given known status left taken (inr (inr (inl stopped))) is = absurd (clash stopped.0.why status 7 stopped.0.is is (λ e. omega (arith, e)) (λ e. omega (arith, e)))
+seven_ends given known status left taken (inr (inr (inr refused))) is = (refused.1, refused.2)
 
-pub eight_is_full : (given : Given) (known : Bool) (status : ℕ) (left taken : Option (List ℕ)) → Verdict given known status left taken → status ≡ 8 → StopsAndTells (IsFirstTooMuch given) given.text left taken
-eight_is_full given known status left taken (inl lacks) is = absurd (omega arith)
-eight_is_full given known status left taken (inr (inl finishes)) is = let zero = finishes.0.zero in absurd (omega arith)
-eight_is_full given known status left taken (inr (inr (inl stopped))) is = record {
-  found = stopped.0.found;
-  is = stop_at given stopped.0.why true stopped.0.found (why_eight stopped.0.why (sym is ∙ stopped.0.is)) stopped.0.place;
-  tells = stopped.0.tells;
-  reach = stopped.0.reach;
-}
-eight_is_full given known status left taken (inr (inr (inr refused))) is = let seven = refused.0 in absurd (omega arith)
-
--- nothing of the script is left
-pub zero_reads_out : (given : Given) (known : Bool) (status : ℕ) (left taken : Option (List ℕ)) → Verdict given known status left taken → status ≡ 0 → left ≡ Some []
-zero_reads_out given known status left taken (inl lacks) is = absurd (omega arith)
-zero_reads_out given known status left taken (inr (inl finishes)) is = finishes.1
-zero_reads_out given known status left taken (inr (inr (inl stopped))) is = absurd (no_zero stopped.0.why (sym is ∙ stopped.0.is))
-zero_reads_out given known status left taken (inr (inr (inr refused))) is = let seven = refused.0 in absurd (omega arith)
-
-no_seven : (why : Bool) → 7 ≡ stop_status why → ⊥
-no_seven false is = cc
-no_seven true is = cc
-
--- `start` was read
 pub seven_starts : (given : Given) (known : Bool) (status : ℕ) (left taken : Option (List ℕ)) → Verdict given known status left taken → status ≡ 7 → (card : Option Persistent) × ReachesStart given card
-seven_starts given known status left taken (inl lacks) is = absurd (omega arith)
-seven_starts given known status left taken (inr (inl finishes)) is = let zero = finishes.0.zero in absurd (omega arith)
-seven_starts given known status left taken (inr (inr (inl stopped))) is = absurd (no_seven stopped.0.why (sym is ∙ stopped.0.is))
-seven_starts given known status left taken (inr (inr (inr refused))) is =
-    let started = refused.1 in (
+seven_starts given known status left taken verdict is =
+    let started = (seven_ends given known status left taken verdict is).0 in (
       started.card,
       record {
         found = started.found;
@@ -485,11 +460,8 @@ refuses given status left taken why stops (inr (inr (inr refused))) =
     let cause = refused.2 refl in inl (refused.0, subst (λ w. TellsWhy given w taken) (one_cause given cause.why why cause.cannot stops.cannot) cause.tells)
 
 pub seven_refuses : (given : Given) (status : ℕ) (left taken : Option (List ℕ)) → Verdict given true status left taken → status ≡ 7 → RefusesAndTells given taken
-seven_refuses given status left taken (inl lacks) is = absurd (omega arith)
-seven_refuses given status left taken (inr (inl finishes)) is = let zero = finishes.0.zero in absurd (omega arith)
-seven_refuses given status left taken (inr (inr (inl stopped))) is = absurd (no_seven stopped.0.why (sym is ∙ stopped.0.is))
-seven_refuses given status left taken (inr (inr (inr refused))) is =
-    let cause = refused.2 refl in record { why = cause.why; stops = record { reaches = cause.reaches; cannot = cause.cannot }; tells = cause.tells }
+seven_refuses given status left taken verdict is =
+    let cause = (seven_ends given true status left taken verdict is).1 refl in record { why = cause.why; stops = record { reaches = cause.reaches; cannot = cause.cannot }; tells = cause.tells }
 
 -- where it can be opened, it is
 not_refused : (given : Given) (taken : Option (List ℕ)) → RefusesAndTells given taken → CanOpen given → ⊥
@@ -513,19 +485,6 @@ stops_bad given status left taken found (inr met) verdict =
     ]
 
 -- ---- what an end is by its status
-
-record ByStatus (ending : Ending) : Type 0 where
-  one : status_for ending ≡ 1 → ending ≡ Usage
-  five : status_for ending ≡ 5 → ending ≡ NoMemory
-  six : status_for ending ≡ 6 → (ending ≡ Played play.ResetFailed) ⊎ (IsUnshown ending × (last_text ending ≡ last_text (MemoryFailed task.Opening)))
-
-by_status : (ending : Ending) → ByStatus ending
-by_status Usage = record { one = λ is. refl; five = λ is. absurd (cc is); six = λ is. absurd (cc is) }
-by_status NoMemory = record { one = λ is. absurd (cc is); five = λ is. refl; six = λ is. absurd (cc is) }
-by_status (Section (script.BadLine number)) = record { one = λ is. absurd (cc is); five = λ is. absurd (cc is); six = λ is. absurd (cc is) }
-by_status (MemoryFailed when) = record { one = λ is. absurd (cc is); five = λ is. absurd (cc is); six = λ is. inr (tt, refl) }
-by_status (Played play.ResetFailed) = record { one = λ is. absurd (cc is); five = λ is. absurd (cc is); six = λ is. inl refl }
-by_status other = record { one = λ is. absurd (cc is); five = λ is. absurd (cc is); six = λ is. absurd (cc is) }
 
 -- a status other than 4 is that of the end: a failing sink would make it 4
 pub own_is : (ending : Ending) (status wanted : ℕ) → (status ≡ status_for ending) ⊎ (status ≡ 4) → status ≡ wanted → (4 ≡ wanted → ⊥) → status_for ending ≡ wanted

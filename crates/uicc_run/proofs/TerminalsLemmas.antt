@@ -14,9 +14,9 @@ use Rattle.uicc_run.specs.Running.{ServesToEnd}
 use Rattle.uicc_run.specs.Worlds.{World, Seen, seen}
 use Rattle.uicc_run.specs.Scripts.{StopsAndTells, TellsNext}
 use Rattle.uicc_run.specs.Terminals.{AskForBip, ComesToBip, TracesBip}
-use Rattle.uicc_run.proofs.TellsNextLemmas.{tells_it}
 use Rattle.uicc_run.specs.declared.endings.Ending.{Ending}
 use Rattle.uicc_run.specs.declared.endings.Ending.TheVariants.{NoMemory, Played}
+use Rattle.uicc_run.proofs.TellsNextLemmas.{tells_it}
 
 -- a run with these words is one
 pub asks_for_run : (words : List (List ℕ)) → AskForBip words → AskForRun words

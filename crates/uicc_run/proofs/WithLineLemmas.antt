@@ -1,8 +1,8 @@
 -- How lines move a run, and why no two ways through a text stop at different lines.
 use Rattle.std.proofs.Common.{◌≡◌, ℕ, Bool, true, false, List, [], ◌∷◌, ◌++◌, Option, Some, None, Ok, Err, refl, sym, ap, ◌∙◌, subst}
-use Rattle.std.specs.List.{AllPass}
 use Rattle.std.proofs.lemmas.Bool.{false≢true}
 use Rattle.std.proofs.lemmas.List.Elements.{All-head, All-tail}
+use Rattle.std.specs.List.{AllPass}
 use Rattle.byte_streams.specs.Lines.{LineList}
 use Rattle.script_form.specs.Forms.{IsLine}
 use Rattle.script_form.specs.declared.lines.ScriptLine.{ScriptLine}

@@ -2,8 +2,8 @@
 use Rattle.std.proofs.Common.{ℕ, Bool, true, false, List, [], ◌∷◌, None, refl, inl}
 use Rattle.uicc_types.specs.declared.answers.StatusWord.{StatusWord}
 use Rattle.uicc_types.specs.declared.runs.Step.{Step}
-use Rattle.uicc_types.specs.declared.runs.Step.TheVariants as step
 use Rattle.uicc_types.specs.declared.runs.TraceItem.{TraceItem}
+use Rattle.uicc_types.specs.declared.runs.Step.TheVariants as step
 use Rattle.uicc_types.specs.declared.runs.TraceItem.TheVariants as item
 use Rattle.card_model.specs.States.{Machine}
 use Rattle.run_steps.specs.Views.{ItsPower, LastShows, StepShows, TheCard}

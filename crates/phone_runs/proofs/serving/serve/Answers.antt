@@ -1,8 +1,8 @@
 -- A command, a reset and a note each add one event to the log; what the places hold is what the handset asked for, and it has less to do.
 use Rattle.std.proofs.Common.{rules}
 use Rattle.run_steps.proofs.SteppingLemmas.{holds_seen}
-use Rattle.run_steps.specs.Ends.{moment_at}
 use Rattle.run_steps.proofs.TakesFrontLemmas.{tells_front, tells_whole}
+use Rattle.run_steps.specs.Ends.{moment_at}
 use Rattle.phone_runs.proofs.CarriedLemmas.{note_carried, reset_carried, same_carried, sent_carried}
 use Rattle.phone_runs.proofs.ServeLemmas.{asks_note, asks_reset, asks_send, none_further, none_rests, none_same, note_ends, note_further, note_more, reset_ends, reset_further, reset_more, sent_ends, sent_further, sent_more}
 use Rattle.phone_runs.proofs.serving.serve.Goals as goal
@@ -15,7 +15,7 @@ pub returns-in-Nothing-clause-rests : goal.returns-in-Nothing-clause-rests
 returns-in-Nothing-clause-rests g c = λ same. none_rests c.args.phone.now c.next_into.new.self (record { item = c.in-Nothing.ensures.item; after = c.in-Nothing.ensures.after }) c.requires.served
 
 pub returns-in-Nothing-clause-same : goal.returns-in-Nothing-clause-same
-returns-in-Nothing-clause-same g c = λ same. none_same c.args.phone.now c.next_into.new.self (record { item = c.in-Nothing.ensures.item; after = c.in-Nothing.ensures.after }) c.requires.served
+returns-in-Nothing-clause-same g c = λ same. search (rules, none_same)
 
 pub returns-in-Ok-clause-further : goal.returns-in-Ok-clause-further
 returns-in-Ok-clause-further g c = λ given log at.
@@ -69,8 +69,7 @@ pub returns-in-Err-write_note-clause-tallies : goal.returns-in-Err-write_note-cl
 returns-in-Err-write_note-clause-tallies g c = record { kept = search rules; sink = search rules; tells = tells_front _ _ _ c.in-Err-write_note.ensures.err }
 
 pub returns-in-Nothing-clause-carried : goal.returns-in-Nothing-clause-carried
-returns-in-Nothing-clause-carried g c =
-    same_carried c.args.phone.now c.next_into.new.self c.args.carrier.now (none_same c.args.phone.now c.next_into.new.self (record { item = c.in-Nothing.ensures.item; after = c.in-Nothing.ensures.after }) c.requires.served)
+returns-in-Nothing-clause-carried g c = search (rules, same_carried, none_same)
 
 pub returns-in-Ok-clause-carried : goal.returns-in-Ok-clause-carried
 returns-in-Ok-clause-carried g c =

@@ -5,15 +5,7 @@ use Rattle.phone_runs.proofs.ServeLemmas.{ends_again, reaches_again, rests_again
 use Rattle.phone_runs.proofs.serving.settle.Goals as goal
 
 pub loop-end-init : goal.loop-end-init
-loop-end-init g c = record {
-  reached = search rules;
-  served = search rules;
-  clock = search rules;
-  carried = same_carried c.args.phone.now c.args.phone.now c.args.carrier.now refl;
-  kept = search rules;
-  sink_kept = search rules;
-  tells = search rules;
-}
+loop-end-init g c = search (rules, same_carried c.args.phone.now c.args.phone.now c.args.carrier.now refl)
 
 pub loop-end-preserved : goal.loop-end-preserved
 loop-end-preserved g c =

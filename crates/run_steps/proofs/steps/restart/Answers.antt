@@ -22,28 +22,13 @@ returns-in-Err-clause-gives g c = λ old is.
     c.reset-outcome.result c.reset_line.result c.reset_line.ensures c.reset-outcome.ensures.takes c.in-Err.ensures.err
 
 pub returns-in-Ok-outcome-clause-tallies : goal.returns-in-Ok-outcome-clause-tallies
-returns-in-Ok-outcome-clause-tallies g c = record {
-  kept = faults_behind c.args.end.now c.set_plan-is_set.new.self c.reset-outcome.new.self c.clear_plan.new.self
-      (with_plan c.args.end.now c.set_plan-is_set.new.self c.reset-outcome.new.self c.clear_plan.new.self c.set_plan-is_set.result c.set_plan-is_set.ensures.set c.set_plan-is_set.ensures.is_set c.reset-outcome.ensures.waits c.clear_plan.ensures) c.reset-outcome.ensures.takes.kept;
-  sink = search rules;
-  tells = search rules;
-}
+returns-in-Ok-outcome-clause-tallies g c = search (rules, faults_behind, with_plan)
 
 pub returns-in-Err-outcome-clause-tallies : goal.returns-in-Err-outcome-clause-tallies
-returns-in-Err-outcome-clause-tallies g c = record {
-  kept = faults_behind c.args.end.now c.set_plan-is_set.new.self c.reset-outcome.new.self c.clear_plan.new.self
-      (with_plan c.args.end.now c.set_plan-is_set.new.self c.reset-outcome.new.self c.clear_plan.new.self c.set_plan-is_set.result c.set_plan-is_set.ensures.set c.set_plan-is_set.ensures.is_set c.reset-outcome.ensures.waits c.clear_plan.ensures) c.reset-outcome.ensures.takes.kept;
-  sink = search rules;
-  tells = search rules;
-}
+returns-in-Err-outcome-clause-tallies g c = search (rules, faults_behind, with_plan)
 
 pub returns-in-Err-clause-tallies : goal.returns-in-Err-clause-tallies
-returns-in-Err-clause-tallies g c = record {
-  kept = faults_behind c.args.end.now c.set_plan-is_set.new.self c.reset-outcome.new.self c.clear_plan.new.self
-      (with_plan c.args.end.now c.set_plan-is_set.new.self c.reset-outcome.new.self c.clear_plan.new.self c.set_plan-is_set.result c.set_plan-is_set.ensures.set c.set_plan-is_set.ensures.is_set c.reset-outcome.ensures.waits c.clear_plan.ensures) c.reset-outcome.ensures.takes.kept;
-  sink = search rules;
-  tells = search rules;
-}
+returns-in-Err-clause-tallies g c = search (rules, faults_behind, with_plan)
 
 pub returns-in-Err-outcome-clause-failed : goal.returns-in-Err-outcome-clause-failed
 returns-in-Err-outcome-clause-failed g c = λ same.

@@ -20,22 +20,10 @@ returns-in-Err-clause-gives g c = λ old is.
     breaks_tpdu c.args.tpdu.now old (link_answer c.args.link.now.kept c.args.tpdu.now) c.args.link.now.kept c.args.end.now _ _ is c.in-Err.ensures.err
 
 pub returns-in-Ok-write_reply-clause-tallies : goal.returns-in-Ok-write_reply-clause-tallies
-returns-in-Ok-write_reply-clause-tallies g c = record {
-  kept = search rules;
-  sink = search rules;
-  tells = c.write_reply.ensures.tells ∙ tells_whole _ _ _ c.in-Ok.ensures.ok;
-}
+returns-in-Ok-write_reply-clause-tallies g c = search (rules, c.write_reply.ensures.tells ∙ tells_whole _ _ _ c.in-Ok.ensures.ok)
 
 pub returns-in-Err-write_reply-clause-tallies : goal.returns-in-Err-write_reply-clause-tallies
-returns-in-Err-write_reply-clause-tallies g c = record {
-  kept = search rules;
-  sink = search rules;
-  tells = c.write_reply.ensures.tells ∙ tells_whole _ _ _ c.in-Ok.ensures.ok;
-}
+returns-in-Err-write_reply-clause-tallies g c = search (rules, c.write_reply.ensures.tells ∙ tells_whole _ _ _ c.in-Ok.ensures.ok)
 
 pub returns-in-Err-clause-tallies : goal.returns-in-Err-clause-tallies
-returns-in-Err-clause-tallies g c = record {
-  kept = search rules;
-  sink = search rules;
-  tells = tells_front _ _ _ c.in-Err.ensures.err;
-}
+returns-in-Err-clause-tallies g c = search (rules, tells_front _ _ _ c.in-Err.ensures.err)

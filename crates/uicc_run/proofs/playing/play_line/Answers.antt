@@ -6,9 +6,9 @@ use Rattle.script_reader.proofs.BehindLemmas.{bad_behind}
 use Rattle.run_steps.proofs.SteppingLemmas.{plans_more}
 use Rattle.run_steps.proofs.StandingLemmas.{machine_minds, machine_stands}
 use Rattle.uicc_run.proofs.HasKindsOfLemmas.{machine_kinds}
+use Rattle.uicc_run.proofs.PlayingLemmas.{breaks_in, comes_to_end, ends_playing, fails_in, plays_further, plays_on, stands_there, step_breaks, step_does, tpdu_breaks, tpdu_does}
 use Rattle.uicc_run.specs.Steps.{may_stand}
 use Rattle.uicc_run.specs.Accounts.{Takes, Transfers}
-use Rattle.uicc_run.proofs.PlayingLemmas.{breaks_in, comes_to_end, ends_playing, fails_in, plays_further, plays_on, stands_there, step_breaks, step_does, tpdu_breaks, tpdu_does}
 use Rattle.uicc_run.proofs.playing.play_line.Goals as goal
 
 pub returns-in-Err-clause-played : goal.returns-in-Err-clause-played

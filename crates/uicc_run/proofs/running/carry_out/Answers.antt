@@ -1,5 +1,5 @@
 -- The run is in one mode alone: in its branch all that is said of the other modes is refuted, and its own call says the rest.
-use Rattle.std.proofs.Common.{◌≡◌, Some, refl, ap, arith, inl, sym, ◌∙◌}
+use Rattle.std.proofs.Common.{◌≡◌, Some, refl, ap, arith, inl, sym, ◌∙◌, rules}
 use Rattle.byte_streams.proofs.ReadingLemmas.{IsTaken-none}
 use Rattle.command_line.specs.declared.requests.Mode.TheVariants.{Bip, Load, Open}
 use Rattle.uicc_run.specs.Endings.{status_for}
@@ -61,16 +61,7 @@ returns-in-Load g c = record {
   };
   bip = λ is. let differ : Bip ≡ Load c.in-Load.start c.in-Load.count = sym is ∙ c.in-Load.is in absurd (cc);
   used = c.load.ensures.ends.used;
-  ends = record {
-    source_cause = record { failed = λ three. absurd (c.load.ensures.ends.unread three); no_failure = λ other. refl };
-    sink_cause = record { failed = λ four. absurd (c.load.ensures.ends.unwritten four); no_failure = λ other. refl };
-    memory_cause = c.load.ensures.ends.memory_cause;
-    reset_cause = λ is. absurd (c.load.ensures.ends.played _ is);
-    tells = refl;
-    unshown = λ unshown. refl;
-    untouched = c.load.ensures.ends.untouched;
-    boxes = c.load.ensures.ends.boxes;
-  };
+  ends = search (rules, c.load.ensures.ends);
 }
 
 pub returns-in-Bip : goal.returns-in-Bip

@@ -3,10 +3,10 @@ use Rattle.std.proofs.Common.{ap, ◌∙◌}
 use Rattle.card_core.specs.Parts.{CardParts}
 use Rattle.card_core.specs.Cards.{parts_of}
 use Rattle.uicc_run.specs.BetweenLines.{IsStarted}
+use Rattle.uicc_run.specs.Playing.{ComesTo}
 use Rattle.uicc_run.proofs.HasKindsOfLemmas.{at_end}
 use Rattle.uicc_run.proofs.EndsForLemmas.{ends_played, rose_as}
 use Rattle.uicc_run.proofs.OpeningLemmas.{formatted_then, given_back, refusal_keeps, refused, starts_seen}
-use Rattle.uicc_run.specs.Playing.{ComesTo}
 use Rattle.uicc_run.proofs.running.open_and_play.Goals as goal
 
 pub returns-in-Ok-clause-comes : goal.returns-in-Ok-clause-comes
